@@ -12,7 +12,7 @@ ROOT = pathlib.Path(__file__).resolve().parents[2]
 FILES = """
     tables/kinds tables/kinds.tsv tests/commands/kinds.py crates/gs1_c/gs1.h python/noriladle/__init__.py python/noriladle/commands/labels.py
     npm/index.d.ts page/gs1.js page/symbol.js shop/shop.json tests/embed/library_calls.c tables/remedies.tsv crates/csv_records/src/print/labels.rt
-    crates/command_runs/src/commands/print.rt npm/README.md python/README.md tests/alike/npm_answers.mjs
+    npm/README.md python/README.md tests/alike/npm_answers.mjs
 """.split()
 
 # A seventh kind, and its form.

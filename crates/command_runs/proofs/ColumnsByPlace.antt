@@ -15,13 +15,14 @@ use Rattle.command_runs.specs.Printed.{cell_answer, sheet_answers}
 use Rattle.command_runs.proofs.ListPlaces.{get_counting, piece_at, pieces_long}
 use Rattle.command_runs.proofs.ListsBeside.{zip_at}
 
--- what is made of the cells of a column, by its row
-cell_at : {A : Type 0} (f : ℕ → A) (g : Cells) (column row : ℕ) → row < g.rows → slice_get (map f (column_cells g column)) row
+-- of what `f` makes of the cells of a column, the item of a row
+cell_of_column : {A : Type 0} (f : ℕ → A) (g : Cells) (column row : ℕ) → row < g.rows → slice_get (map f (column_cells g column)) row
     ≡ Some (f (row * g.columns + column))
-cell_at f g column row low =
+cell_of_column f g column row low =
     slice_get-map f (column_cells g column) row ∙ rw (slice_get-map (λ r. r * g.columns + column) (range_with_len 0 g.rows) row, get_counting g.rows row low)
     refl
 
+-- a column has a cell in each row of the grid
 pub cells_long : {A : Type 0} (f : ℕ → A) (g : Cells) (column : ℕ) → length (map f (column_cells g column)) ≡ g.rows
 cells_long f g column = length-map (column_cells g column) f ∙ length-map-range_with_len (λ row. row * g.columns + column) 0 g.rows
 
@@ -33,10 +34,10 @@ answers_by_place g year labels column =
       long ∙ ap (λ n. n * g.rows) (length-range_with_len 0 sheets),
       λ sheet row in_sheets in_rows.
           piece_at (sheet_answers g year labels column) g.rows each (range_with_len 0 sheets) sheet row sheet (get_counting sheets sheet in_sheets) in_rows
-          ∙ cell_at (λ cell. cell_answer year (slice_get labels (sheet * cell_count g + cell))) g column row in_rows,
+          ∙ cell_of_column (λ cell. cell_answer year (slice_get labels (sheet * cell_count g + cell))) g column row in_rows,
     )
 
--- the same of rows that have the dots of a column
+-- rows that have the dots of a column, by the place of the cell
 column_by_place : (g : Cells) (sheets : List Bitmap) (column : ℕ) (rows : List (List ℕ)) → HaveDots rows (flat_map (column_dots g column) sheets)
     → (length rows ≡ length sheets * g.rows)
     × ((sheet row : ℕ) (s : Bitmap) → slice_get sheets sheet ≡ Some s → row < g.rows
@@ -48,7 +49,7 @@ column_by_place g sheets column rows have =
       sym (AllZip-long _ rows shown have) ∙ pieces_long (column_dots g column) g.rows each sheets,
       λ sheet row s at in_rows.
           let placed = piece_at (column_dots g column) g.rows each sheets sheet row s at in_rows
-          ∙ cell_at (λ cell. cell_dots g s cell (g.height / 2)) g column row in_rows in
+          ∙ cell_of_column (λ cell. cell_dots g s cell (g.height / 2)) g column row in_rows in
           zip_at _ rows shown (sheet * g.rows + row) (cell_dots g s (row * g.columns + column) (g.height / 2)) have placed,
     )
 

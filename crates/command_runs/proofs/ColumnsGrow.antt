@@ -16,7 +16,7 @@ use Rattle.command_runs.proofs.RowsOfCells.{one_more_sheet}
 
 -- ---- items beside numbers in a row
 
--- what is true of each item and its number
+-- if S follows from R for each item and its number, it is true of all
 each_beside : {X : Type 0} (R S : X → ℕ → Type 0) (xs : List X) (a n : ℕ) → AllZip R xs (range_with_len a n)
     → ((x : X) (k : ℕ) → a ≤ k → k < a + n → R x k → S x k) → AllZip S xs (range_with_len a n)
 each_beside R S [] a zero are each = tt
@@ -27,7 +27,7 @@ each_beside R S (x ∷ xs) a (suc n) are each = (
   each_beside R S xs (a + 1) n are.1 (λ y k low high. each y k (omega (arith, low)) (omega (arith, high))),
 )
 
--- one of the items is another
+-- the same after another item has come to place i: it has S by what the old one had
 one_beside : {X : Type 0} (R S : X → ℕ → Type 0) (xs : List X) (x d : X) (a n i : ℕ) → i < n → AllZip R xs (range_with_len a n)
     → ((y : X) (k : ℕ) → k ≢ a + i → R y k → S y k) → (R (get_or xs i d) (a + i) → S x (a + i)) → AllZip S (set xs i x) (range_with_len a n)
 one_beside R S xs x d a zero i low are others here = absurd (omega (arith, low))
@@ -51,26 +51,29 @@ no_sheet_rows : (g : Cells) (a n : ℕ) → AllZip (λ rows column. HaveDots row
 no_sheet_rows g a zero = tt
 no_sheet_rows g a (suc n) = (tt, no_sheet_rows g (a + 1) n)
 
-pub no_columns : (g : Cells) (feeds : List (List (List ℕ))) → feeds ≡ replicate g.columns [] → AreColumns g [] feeds
-no_columns g feeds none = subst (AreColumns g []) (sym none) (no_sheet_rows g 0 g.columns)
+-- so the columns of no sheets are feeds without a row
+pub columns_of_none : (g : Cells) (feeds : List (List (List ℕ))) → feeds ≡ replicate g.columns [] → AreColumns g [] feeds
+columns_of_none g feeds none = subst (AreColumns g []) (sym none) (no_sheet_rows g 0 g.columns)
 
 -- whether one more sheet has the size too
-pub size_more : (g : Cells) (sheets : List Bitmap) (s : Bitmap) (fit fits now : Bool) → fit ≡ have_size g sheets → fits ≡ has_size g s → now ≡ (fit && fits)
+size_more : (g : Cells) (sheets : List Bitmap) (s : Bitmap) (fit fits now : Bool) → fit ≡ have_size g sheets → fits ≡ has_size g s → now ≡ (fit && fits)
     → now ≡ have_size g (sheets ++ s ∷ [])
 size_more g sheets s fit fits now was is all =
     all ∙ (ap₂ (λ a b. a && b) was (is ∙ sym (and-true (has_size g s))) ∙ sym (list_all-append (has_size g) sheets (s ∷ [])))
 
--- the columns before one have the rows of one more sheet
+-- whether a column has the rows of one more sheet: those before `end` have, the others have not yet
 abbrev pub HaveUpTo : Cells → List Bitmap → Bitmap → ℕ → List (List ℕ) → ℕ → Type 0
 HaveUpTo g sheets s end rows column =
     (column < end → HaveDots rows (flat_map (column_dots g column) (sheets ++ s ∷ []))) × (end ≤ column → HaveDots rows (flat_map (column_dots g column) sheets))
 
+-- at first no column has them
 pub up_to_none : (g : Cells) (sheets : List Bitmap) (s : Bitmap) (feeds : List (List (List ℕ))) → AreColumns g sheets feeds
     → AllZip (HaveUpTo g sheets s 0) feeds (range_with_len 0 g.columns)
 up_to_none g sheets s feeds are =
     each_beside (λ rows column. HaveDots rows (flat_map (column_dots g column) sheets)) (HaveUpTo g sheets s 0) feeds 0 g.columns are
     (λ rows column low high have. (λ before. absurd (omega (arith, before)), λ from. have))
 
+-- at the end all columns have them
 pub up_to_all : (g : Cells) (sheets : List Bitmap) (s : Bitmap) (feeds : List (List (List ℕ))) (end : ℕ) → g.columns ≤ end
     → AllZip (HaveUpTo g sheets s end) feeds (range_with_len 0 g.columns) → AreColumns g (sheets ++ s ∷ []) feeds
 up_to_all g sheets s feeds end all are =
@@ -93,6 +96,7 @@ next_column g sheets s feeds new more end low are shown is =
       λ from. absurd (omega (arith, from)),
     )))
 
+-- the same of values that have the rows (`f`): at place i the value v becomes w
 pub up_to_next : {V : Type 0} (f : V → List (List ℕ)) (g : Cells) (sheets : List Bitmap) (s : Bitmap) (vs : List V) (v w : V) (more : List (List ℕ))
     (i end : ℕ) → i ≡ end → v ≡ get_or vs i v → end < g.columns → AllZip (HaveUpTo g sheets s end) (map f vs) (range_with_len 0 g.columns)
     → HaveDots more (column_dots g end s) → f w ≡ f v ++ more
@@ -107,10 +111,11 @@ up_to_next f g sheets s vs v w more i end is at low are shown added =
 
 -- ---- what is kept of sheets
 
-kept_more : (g : Cells) (sheets : List Bitmap) (s : Bitmap) (feeds new : List (List (List ℕ))) (fit fits now : Bool) → AreCut g sheets fit feeds
+-- after one more sheet, by whether it has the size and what the columns are if all have
+cut_one_more : (g : Cells) (sheets : List Bitmap) (s : Bitmap) (feeds new : List (List (List ℕ))) (fit fits now : Bool) → AreCut g sheets fit feeds
     → fits ≡ has_size g s → now ≡ (fit && fits)
     → (now ≡ true → AreColumns g sheets feeds → AreColumns g (sheets ++ s ∷ []) new) → AreCut g (sheets ++ s ∷ []) now new
-kept_more g sheets s feeds new fit fits now was is all grown =
+cut_one_more g sheets s feeds new fit fits now was is all grown =
     (size_more g sheets s fit fits now was.0 is all, λ whole. grown whole (was.1 (and_parts fit fits (sym all ∙ whole)).0))
 
 -- a sheet after one of another size
@@ -118,15 +123,15 @@ pub kept_unfit : (g : Cells) (sheets : List Bitmap) (s : Bitmap) (feeds new : Li
     → AreCut g (sheets ++ s ∷ []) fit new
 kept_unfit g sheets s feeds new true was is = absurd (false≢true (sym is))
 kept_unfit g sheets s feeds new false was is =
-    kept_more g sheets s feeds new false (has_size g s) false was refl refl (λ whole. absurd (false≢true whole))
+    cut_one_more g sheets s feeds new false (has_size g s) false was refl refl (λ whole. absurd (false≢true whole))
 
 -- a sheet of another size
 pub kept_other : (g : Cells) (sheets : List Bitmap) (s : Bitmap) (feeds new : List (List (List ℕ))) (fit : Bool) → AreCut g sheets fit feeds
     → false ≡ has_size g s → AreCut g (sheets ++ s ∷ []) false new
-kept_other g sheets s feeds new true was is = kept_more g sheets s feeds new true false false was is refl (λ whole. absurd (false≢true whole))
-kept_other g sheets s feeds new false was is = kept_more g sheets s feeds new false false false was is refl (λ whole. absurd (false≢true whole))
+kept_other g sheets s feeds new true was is = cut_one_more g sheets s feeds new true false false was is refl (λ whole. absurd (false≢true whole))
+kept_other g sheets s feeds new false was is = cut_one_more g sheets s feeds new false false false was is refl (λ whole. absurd (false≢true whole))
 
 -- a sheet of the size
 pub kept_fit : (g : Cells) (sheets : List Bitmap) (s : Bitmap) (feeds new : List (List (List ℕ))) (fit : Bool) → AreCut g sheets fit feeds
     → true ≡ has_size g s → (AreColumns g sheets feeds → AreColumns g (sheets ++ s ∷ []) new) → AreCut g (sheets ++ s ∷ []) fit new
-kept_fit g sheets s feeds new fit was is grown = kept_more g sheets s feeds new fit true fit was is (sym (and-true fit)) (λ whole are. grown are)
+kept_fit g sheets s feeds new fit was is grown = cut_one_more g sheets s feeds new fit true fit was is (sym (and-true fit)) (λ whole are. grown are)

@@ -31,6 +31,8 @@ use Rattle.command_runs.specs.declared.fault.CommandFault.{CommandFault}
 use Rattle.command_runs.specs.declared.fault.CommandFault.TheVariants as command
 use Rattle.command_line.specs.declared.commands.scan.options.ScanOptions.{ScanOptions}
 
+-- ---- what was written, if a write failed
+
 -- records were taken, and a sink took a prefix of their text
 pub records_cut : {Item : Type 0} (means : Meaning Item) (made : List Item → Type 0) (output : List Item → List ℕ → Type 0) (refuses : _)
     (text sent : List ℕ) (left rest before after : Option (List ℕ)) → Takes means made left rest → ((items : List Item) → made items → output items text)
@@ -48,27 +50,30 @@ images_cut o left rest before after sheets feeds text sent grid read end size ar
 
 -- ---- results that are a fault
 
--- no fault
+-- a result without a fault has none
 pub never_refused : {A E : Type 0} (x : A) (e : E) → (let r : Result A E = Ok x in r ≡ Err e) → ⊥
 never_refused x e same = cc
 
--- this fault
+-- a result that is known to have this fault is this fault
 pub told_fault : {A E : Type 0} (r : Result A E) (fault : E) → IsErrAnd r (λ e. e ≡ fault) → r ≡ Err fault
 told_fault r fault told = let (e, is, same) = err_from_is_err_and r told in is ∙ ap Err same
 
-pub same_fault : {A E : Type 0} (r : Result A E) (fault other : E) → IsErrAnd r (λ e. e ≡ fault) → r ≡ Err other → fault ≡ other
-same_fault (Ok x) fault other told same = absurd told
-same_fault (Err e) fault other told same = let here : e ≡ other = cc in sym told ∙ here
+-- and has no other
+pub one_fault_told : {A E : Type 0} (r : Result A E) (fault other : E) → IsErrAnd r (λ e. e ≡ fault) → r ≡ Err other → fault ≡ other
+one_fault_told (Ok x) fault other told same = absurd told
+one_fault_told (Err e) fault other told same = let here : e ≡ other = cc in sym told ∙ here
 
--- what is true of it
+-- what is true of this fault is true of the fault that the result has
 pub refused_as : {X : Type 0} (r : Result X CommandFault) (fault : CommandFault) (P : CommandFault → Type 0) → IsErrAnd r (λ f. f ≡ fault) → P fault → IfErr r P
 refused_as (Ok x) fault P is p = tt
 refused_as (Err f) fault P is p = subst P (sym is) p
 
--- no failed write
+-- a result that has another fault is no failed write
 pub not_cut : {A : Type 0} (r : Result A CommandFault) (fault : CommandFault) → (fault ≡ command.WriteFault → ⊥) → IsErrAnd r (λ e. e ≡ fault)
     → r ≡ Err command.WriteFault → ⊥
-not_cut r fault other told same = other (same_fault r fault command.WriteFault told same)
+not_cut r fault other told same = other (one_fault_told r fault command.WriteFault told same)
+
+-- ---- runs: refused before a write, cut by a write that failed, or written whole
 
 -- a run that is refused before a write
 pub refused_run : {S W : Type 0} (c : Command) (left : S → Option (List ℕ)) (source_failed : S → Bool) (taken : W → Option (List ℕ)) (sink_failed : W → Bool)
@@ -122,8 +127,9 @@ written_run c left source_failed taken sink_failed source rest sink after wrote 
   write = λ sound. (λ same. absurd (never_refused tt command.WriteFault same), λ failed. absurd (writes sound failed));
 }
 
--- ---- images that are refused
+-- ---- images that are refused: a case for each `PbmFault` in the three lemmas
 
+-- a fault of the images, as the command's
 pub images_refused : (o : ScanOptions) (left rest : Option (List ℕ)) (fault : PbmFault) → IsGrid (cells_of o.grid) → ReadsBytes images_of left rest (Err fault)
     → RefusesScan o left rest (of_images fault)
 images_refused o left rest pbm.NotP4 grid read = (grid, read)
@@ -133,6 +139,7 @@ images_refused o left rest pbm.PbmSize grid read = (grid, inl read)
 images_refused o left rest pbm.ReadFault grid read = (grid, read)
 images_refused o left rest pbm.NoMemory grid read = (grid, read)
 
+-- none is a failed write
 pub images_no_write : (f : PbmFault) → of_images f ≡ command.WriteFault → ⊥
 images_no_write pbm.NotP4 same = cc
 images_no_write pbm.PbmHeader same = cc
@@ -141,38 +148,46 @@ images_no_write pbm.PbmSize same = cc
 images_no_write pbm.ReadFault same = cc
 images_no_write pbm.NoMemory same = cc
 
-pub images_read : (f : PbmFault) → of_images f ≡ command.ReadFault → f ≡ pbm.ReadFault
-images_read pbm.NotP4 same = cc
-images_read pbm.PbmHeader same = cc
-images_read pbm.Truncated same = cc
-images_read pbm.PbmSize same = cc
-images_read pbm.ReadFault same = refl
-images_read pbm.NoMemory same = cc
+-- only `ReadFault` is a failed read
+pub images_only_read : (f : PbmFault) → of_images f ≡ command.ReadFault → f ≡ pbm.ReadFault
+images_only_read pbm.NotP4 same = cc
+images_only_read pbm.PbmHeader same = cc
+images_only_read pbm.Truncated same = cc
+images_only_read pbm.PbmSize same = cc
+images_only_read pbm.ReadFault same = refl
+images_only_read pbm.NoMemory same = cc
+
+-- ---- images that are taken: the grid is the one that `grid_of` gave, and that of the options
 
 -- whether images have the size of a grid, by other names
-pub sized : (g h : Cells) (s t : List Bitmap) (b : Bool) → g ≡ h → s ≡ t → b ≡ have_size g s → have_size h t ≡ b
-sized g h s t b grid sheets is = sym (is ∙ ap (λ g. have_size g s) grid ∙ ap (have_size h) sheets)
+pub sized_as : (g h : Cells) (s t : List Bitmap) (b : Bool) → g ≡ h → s ≡ t → b ≡ have_size g s → have_size h t ≡ b
+sized_as g h s t b grid sheets is = sym (is ∙ ap (λ g. have_size g s) grid ∙ ap (have_size h) sheets)
 
+-- and what their columns are, by other names
 pub columns_of : (g h : Cells) (s t : List Bitmap) (feeds : List (List (List ℕ))) → g ≡ h → s ≡ t → AreColumns g s feeds → AreColumns h t feeds
 columns_of g h s t feeds grid sheets are = subst (λ s. AreColumns h s feeds) sheets (subst (λ g. AreColumns g s feeds) grid are)
 
--- ---- rows that were not answered
+-- ---- answers that are refused: a case for each `AnswerFault` in the two lemmas
 
--- a refusal of the answers is that of no read and of no write
+-- none is a failed read
 pub answers_no_read : (f : AnswerFault) → of_answers f ≡ command.ReadFault → ⊥
 answers_no_read answers.NoThread same = cc
 answers_no_read answers.NoMemory same = cc
 
+-- nor a failed write
 pub answers_no_write : (f : AnswerFault) → of_answers f ≡ command.WriteFault → ⊥
 answers_no_write answers.NoThread same = cc
 answers_no_write answers.NoMemory same = cc
 
--- lists of no rows, behind their values
+-- ---- lists without a row (for `images_unanswered`)
+
+-- if all lists that `f` makes of values are empty, so is that of each value
 rowless_values : {V : Type 0} (f : V → List (List ℕ)) (vs : List V) → All (λ rows. rows ≡ []) (map f vs) → All (λ v. f v ≡ []) vs
 rowless_values f vs all = λ k d low. sym (get_or-map f vs k d (f d) low) ∙ all k (f d) (omega (arith, low, length-map vs f))
 
--- ---- the rows of records that were not answered
+-- ---- the rows of records that were not answered: a case for each `RowsFault` in the three lemmas
 
+-- a fault of the rows, as the command's
 pub rows_unanswered : (lanes : ℕ) (left rest : Option (List ℕ)) (fault : RowsFault) → RefusesRows lanes left rest fault
     → RefusesLanes lanes left rest (of_rows fault)
 rows_unanswered lanes left rest (rows.Records records.ReadFault) why = why
@@ -181,6 +196,7 @@ rows_unanswered lanes left rest (rows.Records (records.Record i f)) why = why
 rows_unanswered lanes left rest (rows.Records records.NoMemory) why = tt
 rows_unanswered lanes left rest rows.NoThread why = why
 
+-- none is a failed write
 pub rows_no_write : (f : RowsFault) → of_rows f ≡ command.WriteFault → ⊥
 rows_no_write (rows.Records records.ReadFault) same = cc
 rows_no_write (rows.Records records.InputSize) same = cc
@@ -188,18 +204,22 @@ rows_no_write (rows.Records (records.Record i f)) same = cc
 rows_no_write (rows.Records records.NoMemory) same = cc
 rows_no_write rows.NoThread same = cc
 
-pub rows_read : (f : RowsFault) → of_rows f ≡ command.ReadFault → f ≡ rows.Records records.ReadFault
-rows_read (rows.Records records.ReadFault) same = refl
-rows_read (rows.Records records.InputSize) same = cc
-rows_read (rows.Records (records.Record i f)) same = cc
-rows_read (rows.Records records.NoMemory) same = cc
-rows_read rows.NoThread same = cc
+-- only that of the records is a failed read
+pub rows_only_read : (f : RowsFault) → of_rows f ≡ command.ReadFault → f ≡ rows.Records records.ReadFault
+rows_only_read (rows.Records records.ReadFault) same = refl
+rows_only_read (rows.Records records.InputSize) same = cc
+rows_only_read (rows.Records (records.Record i f)) same = cc
+rows_only_read (rows.Records records.NoMemory) same = cc
+rows_only_read rows.NoThread same = cc
+
+-- ---- the rows of images that were not answered
 
 -- of no images no column has a row
 no_dots : (rows : List (List ℕ)) → HaveDots rows [] → rows ≡ []
 no_dots [] are = refl
 no_dots (row ∷ rows) are = absurd are
 
+-- so their feeds have none
 no_column_rows : (show : ℕ → Bitmap → List (List Bool)) (columns : List ℕ) (feeds : List (List (List ℕ)))
     → AllZip (λ rows column. HaveDots rows (flat_map (show column) [])) feeds columns
     → All (λ feed. feed ≡ []) feeds
@@ -210,7 +230,7 @@ no_column_rows show (column ∷ columns) (rows ∷ feeds) are =
     let P : List (List ℕ) → Type 0 = λ feed. feed ≡ [] in
     All-cons P rows feeds (no_dots rows are.0) (no_column_rows show columns feeds are.1)
 
--- the answers to the rows of the columns are refused
+-- the answers to the rows of the columns are refused: for a thread only if a column has a row, and so only if there is an image
 pub images_unanswered : {V : Type 0} (f : V → List (List ℕ)) (o : ScanOptions) (sheets : List Bitmap) (feeds : List V) (left rest : Option (List ℕ))
     (fault : AnswerFault)
     → IsGrid (cells_of o.grid) → ReadsBytes images_of left rest (Ok sheets) → IsAtEnd rest → have_size (cells_of o.grid) sheets ≡ true

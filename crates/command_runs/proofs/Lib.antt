@@ -1,4 +1,4 @@
--- The lemmas of the proofs of more than one function; those of `answers/` and `live/` have lists of their own.
+-- Lemmas that the proofs of functions cite, by subject. `answers.antt` and `live.antt` list those of the modules `answers` and `live`.
 pub mod BufferedIsTaken
 pub mod CheckOnce
 pub mod ColumnCounts

@@ -24,13 +24,13 @@ got_more xs ys n x at = get_first xs ys n (slice_get_within xs n x at) ∙ at
 pub got_after : {A : Type 0} (xs ys : List A) (k n : ℕ) (x : A) → n ≡ length xs + k → slice_get ys k ≡ Some x → slice_get (xs ++ ys) n ≡ Some x
 got_after xs ys k n x is at = ap (slice_get (xs ++ ys)) is ∙ get_second xs ys k ∙ at
 
--- the numbers from 0 on
+-- a number stands at its own place among the numbers from 0 on
 pub get_counting : (n i : ℕ) → i < n → slice_get (range_with_len 0 n) i ≡ Some i
 get_counting n i low =
     slice_get-get_or (range_with_len 0 n) i 0 (omega (arith, low, length-range_with_len 0 n))
     ∙ ap Some (get_or-range_with_len 0 n i 0 low ∙ omega arith)
 
--- lists of one length, one after another
+-- lists of k items each, one after another: how many items they have, and the item j of the list i
 module _ {X A : Type 0} (f : X → List A) (k : ℕ) (each : (x : X) → length (f x) ≡ k) where
   pub pieces_long : (xs : List X) → length (flat_map f xs) ≡ length xs * k
   pieces_long [] = omega arith

@@ -5,7 +5,7 @@ use Rattle.std.specs.List.{AllByRecursion, AllZip, flat_map, range_with_len, sli
 use Rattle.std.proofs.lemmas.List.Elements.{All-cons, All-nil}
 use Rattle.std.proofs.lemmas.Slice.Zip.{AllZip-right}
 
--- one list after another
+-- two pairs of lists, one after another
 pub beside-append : {X Y : Type 0} (R : X → Y → Type 0) (xs us : List X) (ys vs : List Y) → AllZip R xs ys → AllZip R us vs → AllZip R (xs ++ us) (ys ++ vs)
 beside-append R [] us [] vs h k = k
 beside-append R [] us (y ∷ ys) vs h k = absurd h
@@ -22,12 +22,12 @@ module _ {X Y Z : Type 0} (P : X → Y → Type 0) (Q : X → Z → Type 0) wher
   beside (x ∷ xs) (y ∷ ys) [] h k = absurd k
   beside (x ∷ xs) (y ∷ ys) (z ∷ zs) h k = ((x, h.0, k.0), beside xs ys zs h.1 k.1)
 
-  -- and the other way
-  pub apart : (ys : List Y) (zs : List Z) → AllZip (λ y z. (x : X) × P x y × Q x z) ys zs → (xs : List X) × AllZip P xs ys × AllZip Q xs zs
-  apart [] [] h = ([], tt, tt)
-  apart [] (z ∷ zs) h = absurd h
-  apart (y ∷ ys) [] h = absurd h
-  apart (y ∷ ys) (z ∷ zs) h = let s = apart ys zs h.1 in (h.0.0 ∷ s.0, (h.0.1, s.1), (h.0.2, s.2))
+  -- and back: if each pair has an item beside both, there is such a third list
+  pub from_beside : (ys : List Y) (zs : List Z) → AllZip (λ y z. (x : X) × P x y × Q x z) ys zs → (xs : List X) × AllZip P xs ys × AllZip Q xs zs
+  from_beside [] [] h = ([], tt, tt)
+  from_beside [] (z ∷ zs) h = absurd h
+  from_beside (y ∷ ys) [] h = absurd h
+  from_beside (y ∷ ys) (z ∷ zs) h = let s = from_beside ys zs h.1 in (h.0.0 ∷ s.0, (h.0.1, s.1), (h.0.2, s.2))
 
 -- where each item of a kind has at most one beside it, a list of them has at most one list beside it
 pub same_where : {X Y : Type 0} (R : X → Y → Type 0) (P : X → Type 0) → ((x : X) (y z : Y) → P x → R x y → R x z → y ≡ z) → (xs : List X) (ys zs : List Y)
@@ -48,11 +48,11 @@ same_beside {X} R one xs ys zs h k = same_where R (λ x. ⊤) (λ x y z any p q.
     of_any [] = tt
     of_any (x ∷ xs) = (tt, of_any xs)
 
--- beside a list stands its map
-pub map_beside : {X Y : Type 0} (R : X → Y → Type 0) (P : X → Type 0) (g : X → Y) → ((x : X) → P x → R x (g x)) → (xs : List X) → AllByRecursion P xs
+-- beside a list stands its map, if each item of a kind stands beside its image
+pub image_beside : {X Y : Type 0} (R : X → Y → Type 0) (P : X → Type 0) (g : X → Y) → ((x : X) → P x → R x (g x)) → (xs : List X) → AllByRecursion P xs
     → AllZip R xs (map g xs)
-map_beside R P g each [] h = tt
-map_beside R P g each (x ∷ xs) h = (each x h.0, map_beside R P g each xs h.1)
+image_beside R P g each [] h = tt
+image_beside R P g each (x ∷ xs) h = (each x h.0, image_beside R P g each xs h.1)
 
 -- what stands beside a list stands beside its map
 pub beside-map : {X Y Z : Type 0} (R : Y → Z → Type 0) (f : X → Y) (xs : List X) (zs : List Z) → AllZip (λ x z. R (f x) z) xs zs → AllZip R (map f xs) zs
@@ -61,7 +61,7 @@ beside-map R f [] (z ∷ zs) h = absurd h
 beside-map R f (x ∷ xs) [] h = absurd h
 beside-map R f (x ∷ xs) (z ∷ zs) h = (h.0, beside-map R f xs zs h.1)
 
--- the list that each item gives and the list that its index gives, one list after another
+-- if the list that each item gives stands beside the list that its index gives, so do all of them, one list after another
 pub beside-flat_map : {X Y Z : Type 0} (R : Y → Z → Type 0) (f : X → List Y) (g : ℕ → List Z) (xs : List X) (k : ℕ)
     → ((i : ℕ) (x : X) → slice_get xs i ≡ Some x → AllZip R (f x) (g (k + i))) → AllZip R (flat_map f xs) (flat_map g (range_with_len k (length xs)))
 beside-flat_map R f g [] k each = tt
@@ -88,11 +88,13 @@ zip_weaker R S so [] (y ∷ ys) z = absurd z
 zip_weaker R S so (x ∷ xs) [] z = absurd z
 zip_weaker R S so (x ∷ xs) (y ∷ ys) z = (so x y z.0, zip_weaker R S so xs ys z.1)
 
+-- what follows of each pair for its first item is true of all first items
 pub first_of_pairs : {X Y : Type 0} (R : X → Y → Type 0) (P : X → Type 0) → ((x : X) (y : Y) → R x y → P x) → (xs : List X) (ys : List Y) → AllZip R xs ys → All P xs
 first_of_pairs R P so [] ys z = All-nil P
 first_of_pairs R P so (x ∷ xs) [] z = absurd z
 first_of_pairs R P so (x ∷ xs) (y ∷ ys) z = All-cons P x xs (so x y z.0) (first_of_pairs R P so xs ys z.1)
 
+-- beside the empty list stands the empty list
 pub no_pairs : {X Y : Type 0} (R : X → Y → Type 0) (xs : List X) (ys : List Y) → xs ≡ [] → AllZip R xs ys → ys ≡ []
 no_pairs R xs [] none z = refl
 no_pairs R [] (y ∷ ys) none z = absurd z

@@ -21,14 +21,17 @@ use Rattle.element_core.specs.Terms.{Terms}
 use Rattle.command_runs.proofs.LanesOnce.{mean_once}
 
 module _ (one : OneListOrFault) (year : Terms) where
-  same_listing : (x y : Listing) → x.year ≡ y.year → x.list ≡ y.list → x ≡ y
-  same_listing x y years lists = λ i. record { year = years i; list = lists i }
+  -- a listing is its year and its list
+  listing_by_parts : (x y : Listing) → x.year ≡ y.year → x.list ≡ y.list → x ≡ y
+  listing_by_parts x y years lists = λ i. record { year = years i; list = lists i }
 
+  -- an element string means one label, since it has one list of elements
   element_label : (text : List ℕ) (a b : Label) → IsElementLabel year text (Ok a) → IsElementLabel year text (Ok b) → a ≡ b
   element_label text a b h k =
       let lists = (one year text).0 h.0.list k.0.list h.3 k.3 in
-      h.1 ∙ ap label.Gs1128 (same_listing h.0 k.0 (h.2 ∙ sym k.2) lists) ∙ sym k.1
+      h.1 ∙ ap label.Gs1128 (listing_by_parts h.0 k.0 (h.2 ∙ sym k.2) lists) ∙ sym k.1
 
+  -- so does a text of a kind, whatever the kind
   label_by_kind : (k : LabelKind) (field : List ℕ) (a b : Label) → IsLabelAs year k field (Ok a) → IsLabelAs year k field (Ok b) → a ≡ b
   label_by_kind (kind.Gtin k) field a b h p = h.1 ∙ sym p.1
   label_by_kind kind.Gs1128 field a b h p = element_label (spelled field) a b h p
@@ -37,7 +40,7 @@ module _ (one : OneListOrFault) (year : Terms) where
   label_by_name (Some k) field a b h p = label_by_kind k field a b h p
   label_by_name None field a b h p = cc h
 
-  -- a record means one label
+  -- a record means one label: its fields are a kind and a text, or it means none
   label_once : (fields : Fields) (a b : Label) → print_meaning year fields (Ok a) → print_meaning year fields (Ok b) → a ≡ b
   label_once [] a b h k = cc h
   label_once (name ∷ []) a b h k = cc h

@@ -4,6 +4,7 @@ use Rattle.std.specs.List.{AllByRecursion, AllZip, flat_map, range_with_len, sli
 use Rattle.std.proofs.lemmas.Bool.{and_from, le-leb, lt-ltb}
 use Rattle.std.proofs.lemmas.List.FromFn.{length-map-range_with_len}
 use Rattle.std.proofs.lemmas.List.Elements.{All-from_recursion}
+use Rattle.std.proofs.lemmas.Nat.{mul-add-lt}
 use Rattle.std.proofs.lemmas.Option.{slice_get_cases}
 use Rattle.std.proofs.lemmas.Slice.Zip.{AllZip-long}
 use Rattle.scan_core.specs.Answers.{IsAnswer, Reads}
@@ -22,7 +23,7 @@ use Rattle.csv_records.specs.print.Labels.{label_list}
 use Rattle.command_runs.specs.Columns.{AreColumns, HaveDots, column_cells, column_dots}
 use Rattle.command_runs.specs.Printed.{AreScanned, PrintedAnswer, SaysElements, ScannedOnce, WrittenAnswer, cell_answer, column_answers, labels_answers, sheet_answers}
 use Rattle.element_core.specs.Terms.{Terms}
-use Rattle.command_runs.proofs.ListsBeside.{apart, beside, beside-flat_map, beside-map, map_beside, same_beside}
+use Rattle.command_runs.proofs.ListsBeside.{beside, beside-flat_map, beside-map, from_beside, image_beside, same_beside}
 
 -- as many sheets are printed as the labels fill
 pub sheets_counted : (labels : List Label) (g : Cells) (sheets : List Bitmap) → ArePrinted labels g sheets → length sheets ≡ sheet_count g (length labels)
@@ -41,23 +42,16 @@ Answered year shown answer = (runs : List ℕ) × (IsRow runs × (dots_of runs �
 Column : Cells → List Bitmap → Terms → ℕ → List Answer → Type 0
 Column g sheets year column answers = (rows : List (List ℕ)) × HaveDots rows (flat_map (column_dots g column) sheets) × Reads rows year answers
 
--- numbers from one on lie below an end
-below : (a n end : ℕ) → a + n ≤ end → AllByRecursion (λ i. i < end) (range_with_len a n)
-below a zero end h = tt
-below a (suc n) end h = (omega arith, below (a + 1) n end (omega arith))
+-- numbers from a first one on lie below an end
+range_below : (a n end : ℕ) → a + n ≤ end → AllByRecursion (λ i. i < end) (range_with_len a n)
+range_below a zero end h = tt
+range_below a (suc n) end h = (omega arith, range_below (a + 1) n end (omega arith))
 
--- the cells of a column are cells of the sheet
-in_sheet : (columns rows row column : ℕ) → row < rows → column < columns → row * columns + column < columns * rows
-in_sheet columns rows row column h k =
-    let more : (row + 1) * columns ≤ rows * columns = grind arith in
-    let split : (row + 1) * columns ≡ row * columns + columns = grind arith in
-    let turned : rows * columns ≡ columns * rows = grind arith in
-    omega arith
-
+-- the cells of a column are cells of the sheet: n of `column_cells`, from row a on
 cells_within : (g : Cells) (column a n : ℕ) → column < g.columns → a + n ≤ g.rows
     → AllByRecursion (λ cell. cell < cell_count g) (map (λ row. row * g.columns + column) (range_with_len a n))
 cells_within g column a zero k h = tt
-cells_within g column a (suc n) k h = (in_sheet g.columns g.rows a column (omega arith) k, cells_within g column (a + 1) n k (omega arith))
+cells_within g column a (suc n) k h = (mul-add-lt a g.columns column g.rows (omega arith) k, cells_within g column (a + 1) n k (omega arith))
 
 -- a row with these dots has one answer
 module _ (rows : DotsDetermine) (one : OneAnswer) (year : Terms) where
@@ -67,7 +61,7 @@ module _ (rows : DotsDetermine) (one : OneAnswer) (year : Terms) where
       let same : k.0 ≡ h.0 = rows k.0 h.0 k.1.0 h.1.0 (k.1.1 ∙ sym h.1.1) in
       one h.0 year x y h.1.0 h.2 (subst (λ runs. IsAnswer runs year y) same k.2)
 
-  -- so have the rows of a column, and those of all columns
+  -- so the rows of a column have one list of answers, and all columns have one list of lists
   column_once : (g : Cells) (sheets : List Bitmap) (column : ℕ) (x y : List Answer) → Column g sheets year column x → Column g sheets year column y → x ≡ y
   unfolding Column Answered
   column_once g sheets column x y h k =
@@ -91,7 +85,7 @@ module _ (rows : DotsDetermine) (one : OneAnswer) (year : Terms) where
 module _ (bars : BarRowsAnswer) (blank : EmptyCellsAreBlank) (make : DotsMakeRow) (labels : List Label) (g : Cells) (sheets : List Bitmap) (year : Terms)
     (printed : ArePrinted labels g sheets)
     (say : AllByRecursion (SaysElements year) labels) where
-  -- the middle row of a cell answers for its label
+  -- a row with the dots of the middle row of a cell answers for the label of the cell, or that it is blank
   cell_says : (i cell : ℕ) (sheet : Bitmap) (runs : List ℕ) → slice_get sheets i ≡ Some sheet → cell < cell_count g
       → IsRow runs → dots_of runs ≡ cell_dots g sheet cell (g.height / 2) → IsAnswer runs year (cell_answer year (slice_get labels (i * cell_count g + cell)))
   cell_says i cell sheet runs at within row dots =
@@ -117,6 +111,7 @@ module _ (bars : BarRowsAnswer) (blank : EmptyCellsAreBlank) (make : DotsMakeRow
         | inr past ↦ rw past.1 (blank labels g sheets i cell (g.height / 2) sheet runs year printed at within (omega arith) past.0 dots)
       ]
 
+  -- some row shows its dots: a cell is at most 4,096 dots wide, and a row may have 65,535 dots
   cell_answered : (i cell : ℕ) (sheet : Bitmap) → slice_get sheets i ≡ Some sheet → cell < cell_count g
       → Answered year (cell_dots g sheet cell (g.height / 2)) (cell_answer year (slice_get labels (i * cell_count g + cell)))
   unfolding Answered
@@ -126,17 +121,17 @@ module _ (bars : BarRowsAnswer) (blank : EmptyCellsAreBlank) (make : DotsMakeRow
       let row = make (cell_dots g sheet cell (g.height / 2)) (omega arith) in
       (row.0, (row.1, row.2), cell_says i cell sheet row.0 at within row.1 row.2)
 
-  -- so do those of a column of a sheet
+  -- so the dots of a column of a sheet have the answers of its cells
   sheet_answered : (column : ℕ) → column < g.columns → (i : ℕ) (sheet : Bitmap) → slice_get sheets i ≡ Some sheet
       → AllZip (Answered year) (column_dots g column sheet) (sheet_answers g year labels column i)
   sheet_answered column k i sheet at =
       let shown : ℕ → List Bool = λ cell. cell_dots g sheet cell (g.height / 2) in
       let said : ℕ → Answer = λ cell. cell_answer year (slice_get labels (i * cell_count g + cell)) in
       beside-map (Answered year) shown (column_cells g column) (sheet_answers g year labels column i)
-      (map_beside (λ cell answer. Answered year (shown cell) answer) (λ cell. cell < cell_count g) said (λ cell within. cell_answered i cell sheet at within)
+      (image_beside (λ cell answer. Answered year (shown cell) answer) (λ cell. cell < cell_count g) said (λ cell within. cell_answered i cell sheet at within)
       (column_cells g column) (cells_within g column 0 g.rows k (omega arith)))
 
-  -- and those of a column of all sheets
+  -- and so do those of a column of all sheets
   column_answered : (column : ℕ) → column < g.columns → Column g sheets year column (column_answers g year labels column)
   unfolding Column Answered
   column_answered column k =
@@ -147,16 +142,17 @@ module _ (bars : BarRowsAnswer) (blank : EmptyCellsAreBlank) (make : DotsMakeRow
       (λ n. AllZip (Answered year) (column_dots g column sheet) (sheet_answers g year labels column n)) same (sheet_answered column k i sheet at)) in
       let said : AllZip (Answered year) dots (column_answers g year labels column) =
       subst (λ n. AllZip (Answered year) dots (flat_map (sheet_answers g year labels column) (range_with_len 0 n))) (sheets_counted labels g sheets printed) all in
-      apart (λ runs shown. IsRow runs × (dots_of runs ≡ shown)) (λ runs answer. IsAnswer runs year answer) dots (column_answers g year labels column) said
+      from_beside (λ runs shown. IsRow runs × (dots_of runs ≡ shown)) (λ runs answer. IsAnswer runs year answer) dots (column_answers g year labels column) said
 
+  -- and so do those of all columns
   columns_answered : AreScanned g sheets year (labels_answers g year labels)
   unfolding Column
   columns_answered =
       let columns : List ℕ = range_with_len 0 g.columns in
       let all : AllZip (Column g sheets year) columns (map (column_answers g year labels) columns) =
-      map_beside (Column g sheets year) (λ column. column < g.columns) (column_answers g year labels) column_answered columns
-      (below 0 g.columns g.columns (omega arith)) in
-      apart (λ rows column. HaveDots rows (flat_map (column_dots g column) sheets)) (λ rows said. Reads rows year said) columns
+      image_beside (Column g sheets year) (λ column. column < g.columns) (column_answers g year labels) column_answered columns
+      (range_below 0 g.columns g.columns (omega arith)) in
+      from_beside (λ rows column. HaveDots rows (flat_map (column_dots g column) sheets)) (λ rows said. Reads rows year said) columns
       (map (column_answers g year labels) columns) all
 
 -- printed sheets have the answers of their labels
@@ -167,16 +163,16 @@ printed_answer bars blank make labels g sheets year printed say = columns_answer
 pub scanned_once : DotsDetermine → OneAnswer → ScannedOnce
 scanned_once rows one g sheets year x y h k = columns_once rows one year g sheets h.0 k.0 x y h.1 h.2 k.1 k.2
 
--- bytes are read as one list of images
-pub one_list : (bytes : List ℕ) (sheets others : List Bitmap) → images_of bytes ≡ (Ok sheets, []) → images_of bytes ≡ (Ok others, []) → others ≡ sheets
-one_list bytes sheets others e f =
+-- bytes are one list of images
+pub one_list_of_images : (bytes : List ℕ) (sheets others : List Bitmap) → images_of bytes ≡ (Ok sheets, []) → images_of bytes ≡ (Ok others, []) → others ≡ sheets
+one_list_of_images bytes sheets others e f =
     let left = ap (λ p. p.0) e in
     let right = ap (λ p. p.0) f in
     cc
 
--- and so have the sheets that are read of them
+-- sheets that were written as images and read again have the answers of the labels, and no others
 pub written_answer : PrintedAnswer → ScannedOnce → PrintedIsRead → WrittenAnswer
 written_answer answer once read labels g printed sheets year answers is few say images scanned =
-    let same = one_list (pbm_of printed) printed sheets (read labels g printed is few) images in
+    let same = one_list_of_images (pbm_of printed) printed sheets (read labels g printed is few) images in
     let told : AreScanned g printed year answers = subst (λ ss. AreScanned g ss year answers) same scanned in
     once g printed year answers (labels_answers g year labels) told (answer labels g printed year is say)

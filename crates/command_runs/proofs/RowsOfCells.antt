@@ -1,4 +1,4 @@
--- The rows of one column as the cells of a sheet come, and that the numbers of cells are small, for `push_column`; the rows of one more sheet, for `ColumnsGrow`.
+-- The rows of one column as its cells come, and that the numbers of cells are small, for `push_column`; as one more sheet comes, for `ColumnsGrow`.
 use Rattle.std.proofs.Common.{◌+◌, ◌++◌, ◌*◌, ◌/◌, ◌<◌, ◌≤◌, ◌==◌, ◌≡◌, ◌∙◌, ◌∷◌, Bool, Fits, List, [], ap, arith, map}
 use Rattle.std.proofs.Common.{subst, true, w16, ℕ}
 use Rattle.std.proofs.lemmas.Bool.{and_parts, eqb-true}
@@ -17,32 +17,35 @@ use Rattle.std.proofs.lemmas.Slice.Zip.{all_zipped_more}
 
 -- ---- the places of a column's cells
 
-pub ended : (row end rows : ℕ) → row ≤ end → end ≤ row → end ≡ rows → row ≡ rows
-ended row end rows low high is = omega arith
+-- the loop over the rows of the grid stands at their number once it ends
+pub rows_passed : (row end rows : ℕ) → row ≤ end → end ≤ row → end ≡ rows → row ≡ rows
+rows_passed row end rows low high is = omega arith
 
+-- the middle row of a cell lies in it
 pub half_low : (n d : ℕ) → 2 * d < n → n / 2 < n
 half_low n d least = omega arith
 
--- the number of a cell, and that no number on the way to it is too large
+-- the number of a cell in the sheet
 pub place_low : (row column columns rows end : ℕ) → row < end → end ≡ rows → column < columns → row * columns + column < columns * rows
 place_low row column columns rows end within is low = mul-add-lt row columns column rows (subst (λ n. row < n) is within) low
 
-pub fits : (row told column columns rows end : ℕ) → row < end → end ≡ rows → column < columns → told ≡ columns → columns ≤ 16 → rows ≤ 64
+-- no number on the way to it is too large for a `u16`: a grid has at most 16 columns and 64 rows
+pub cell_fits : (row told column columns rows end : ℕ) → row < end → end ≡ rows → column < columns → told ≡ columns → columns ≤ 16 → rows ≤ 64
     → Fits w16 (row * told) × Fits w16 (row * told + column)
-fits row told column columns rows end within in_rows low is few most =
+cell_fits row told column columns rows end within in_rows low is few most =
     let place = place_low row column columns rows end within in_rows low in
     let wide : columns * rows ≤ 16 * rows = mul-le-mul_right rows few in
     rw is (omega (arith, wide, most, place), omega (arith, wide, most, place))
 
 -- a sheet of a grid's size
-pub size_of : (g : Cells) (s : Bitmap) → has_size g s ≡ true → (s.width ≡ g.columns * g.width) × (s.height ≡ g.rows * g.height)
-size_of g s size =
+pub has_grid_size : (g : Cells) (s : Bitmap) → has_size g s ≡ true → (s.width ≡ g.columns * g.width) × (s.height ≡ g.rows * g.height)
+has_grid_size g s size =
     let both = and_parts (s.width == g.columns * g.width) (s.height == g.rows * g.height) size in
     (eqb-true s.width (g.columns * g.width) both.0, eqb-true s.height (g.rows * g.height) both.1)
 
 -- ---- the rows of cells and sheets
 
--- one more row of a sheet
+-- the row of one more cell of a column
 pub one_more_cell : (dots : ℕ → List Bool) (cell : ℕ → ℕ) (rows : List (List ℕ)) (n : ℕ) (runs : List ℕ)
     → HaveDots rows (map dots (map cell (range_with_len 0 n))) → IsRow runs → dots_of runs ≡ dots (cell n)
     → HaveDots (rows ++ runs ∷ []) (map dots (map cell (range_with_len 0 (n + 1))))

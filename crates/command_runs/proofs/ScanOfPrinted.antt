@@ -24,9 +24,9 @@ use Rattle.command_line.specs.declared.commands.print.options.Output.TheVariants
 use Rattle.command_line.specs.declared.commands.print.options.PrintOptions.{PrintOptions}
 use Rattle.element_core.specs.Terms.{Terms}
 use Rattle.command_line.specs.declared.commands.scan.options.ScanOptions.{ScanOptions}
-use Rattle.command_runs.proofs.PrintedAnswers.{one_list, sheets_counted}
+use Rattle.command_runs.proofs.PrintedAnswers.{one_list_of_images, sheets_counted}
 
--- the labels of records say their elements
+-- the labels of records say their elements (`labels_say` of `LabelReadings`)
 abbrev LabelsSay : Type 0
 LabelsSay = (year : Terms) (rows : List Fields) (labels : List Label) → AreItems (print_meaning year) rows labels → AllByRecursion (SaysElements year) labels
 
@@ -38,7 +38,7 @@ sizes labels g sheets printed = list_all-from_AllPass (has_size g) sheets (λ i 
     and_from (s.width == g.columns * g.width) (s.height == g.rows * g.height) (eq-eqb s.width (g.columns * g.width) shown.width)
     (eq-eqb s.height (g.rows * g.height) shown.height))
 
--- what is printed is taken, and its columns have the labels' answers
+-- what is printed is taken, and its columns have the labels' answers; `scan` takes at most 4,096 images, and `IsPrintFor` has no more
 scanned_so : LabelsSay → PrintedIsRead → PrintedAnswer
     → (scan : ScanOptions) (print : PrintOptions) (rows : List Fields) (labels : List Label) (bytes : List ℕ) → IsPrintFor scan print rows labels bytes
     → (sheets : List Bitmap) × AreImages scan bytes sheets × AreScanned (cells_of scan.grid) sheets scan.year
@@ -57,13 +57,13 @@ scanned_so say read answer scan print rows labels bytes p =
     let images : AreImages scan bytes sheets = (are.grid, ap images_of written.2 ∙ read labels g sheets are fits, sizes labels g sheets are) in
     (sheets, images, answer labels g sheets scan.year are says)
 
--- what a scan of them answers is that
+-- what a scan of the same bytes answers is nothing else
 answered_so : ScannedOnce → (scan : ScanOptions) (bytes : List ℕ) (sheets : List Bitmap) (answers : List (List Answer))
     → AreImages scan bytes sheets → AreScanned (cells_of scan.grid) sheets scan.year answers
     → (others : List Bitmap) (said : List (List Answer)) → AreImages scan bytes others → AreScanned (cells_of scan.grid) others scan.year said → said ≡ answers
 answered_so once scan bytes sheets answers images are others said also told =
     let g = cells_of scan.grid in
-    let same = one_list bytes sheets others images.1 also.1 in
+    let same = one_list_of_images bytes sheets others images.1 also.1 in
     once g sheets scan.year said answers (subst (λ ss. AreScanned g ss scan.year said) same told) are
 
 pub printed_is_answered : LabelsSay → PrintedIsRead → PrintedAnswer → ScannedOnce → PrintedIsAnswered
@@ -84,6 +84,6 @@ printed_is_scanned say read answer once scan print rows labels bytes h =
 pub one_scan : ScannedOnce → OneScan
 one_scan once o bytes text other h k =
     let g = cells_of o.grid in
-    let same = one_list bytes h.0 k.0 h.1.1 k.1.1 in
+    let same = one_list_of_images bytes h.0 k.0 h.1.1 k.1.1 in
     let told : AreScanned g h.0 o.year k.4.0 = subst (λ ss. AreScanned g ss o.year k.4.0) same (k.2, k.3, k.4.1) in
     h.4.2 ∙ ap report (once g h.0 o.year h.4.0 k.4.0 (h.2, h.3, h.4.1) told) ∙ sym k.4.2

@@ -1,4 +1,4 @@
--- The lemmas of the proofs of `src/answers/`.
+-- Lemmas that the proofs of `src/answers/` cite, by subject; those of `src/live/` use PlainBytes too.
 pub mod FeedsGrow
 pub mod FirstLine
 pub mod LinesAsBrought

@@ -1,4 +1,4 @@
--- The rows of the columns of sheets.
+-- The rows that images of sheets give, column by column (`columns.rt`).
 use Rattle.std.specs.Prelude.{◌≡◌, ◌==◌, ◌&&◌, ◌+◌, ◌*◌, ◌/◌, ℕ, Bool, false, true, List, MatchOption, Option, Result, Ok, Err, length, map}
 use Rattle.std.specs.Io.KnownBytes.{IsAtEnd}
 use Rattle.std.specs.Global.{Vec}
@@ -14,7 +14,7 @@ use Rattle.sheet_core.specs.pbm.Images.{ReadsBytes, images_of}
 abbrev pub has_size : Cells → Bitmap → Bool
 has_size g s = (s.width == g.columns * g.width) && (s.height == g.rows * g.height)
 
--- whether each of them has
+-- whether each image has the grid's size
 abbrev pub have_size : Cells → List Bitmap → Bool
 have_size g sheets = list_all (has_size g) sheets
 

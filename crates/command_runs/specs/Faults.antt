@@ -1,4 +1,4 @@
--- The texts of faults, and how those of one layer become those of the next.
+-- The texts of the faults of commands, and the fault of a command that each fault of a lower layer becomes (`fault.rt`).
 use Rattle.std.specs.Prelude.{◌++◌, ℕ, List, Some, codes}
 use Rattle.std.specs.Fmt.{decimal}
 use Rattle.digits_core.specs.Refusals.{refusal_text, refusal_words}
@@ -21,7 +21,7 @@ use Rattle.command_runs.specs.declared.live.fault.LiveFault.TheVariants as live
 use Rattle.command_runs.specs.declared.fault.CommandFault.{CommandFault}
 use Rattle.command_runs.specs.declared.fault.CommandFault.TheVariants as command
 
--- of a command: `refused`, its number, its name and, if it has one, the label's index; of a record those of its fault
+-- the refusal of a command: `refused`, its number, its name and, if it has one, the label's index; for a record that of the record's fault
 abbrev pub command_refusal_text : CommandFault → List ℕ
 command_refusal_text command.ReadFault = refusal_words refusal.ReadFault
 command_refusal_text command.InputSize = refusal_words refusal.InputSize
@@ -37,7 +37,7 @@ command_refusal_text command.Truncated = refusal_words refusal.Truncated
 command_refusal_text command.PbmSize = refusal_words refusal.PbmSize
 command_refusal_text command.NoThread = refusal_words refusal.NoThread
 
--- the same, and before it the index of a record
+-- what a fault is written as: its refusal, behind the index of the record if it is of one
 abbrev pub command_fault_text : CommandFault → List ℕ
 command_fault_text (command.Record i f) = codes "record " ++ decimal i ++ codes ": " ++ record_fault_text f
 command_fault_text fault = command_refusal_text fault
@@ -66,7 +66,8 @@ of_live live.WriteFault = command.WriteFault
 of_live live.NoMemory = command.NoMemory
 of_live live.NoThread = command.NoThread
 
--- a failed write, a refused growth and a thread that could not be started, as the command's
+-- names by which contracts and proofs write four variants: a failed write, a refused growth, a thread that could not be started, and below a
+-- grid outside the limits
 abbrev pub failed_write : CommandFault
 failed_write = command.WriteFault
 

@@ -1,4 +1,4 @@
--- Laws about what the commands write and read.
+-- Laws about what the commands write and read (`laws.rt`).
 use Rattle.std.specs.Prelude.{◌≡◌, ◌↔◌, ◌≤◌, ◌<◌, ◌+◌, ◌*◌, ◌/◌, ℕ, List, Some, length, slice_get}
 use Rattle.scan_core.specs.declared.answer.Answer.{Answer}
 use Rattle.scan_core.specs.Row.{IsRow, dots_of}
@@ -18,7 +18,7 @@ use Rattle.command_runs.specs.Columns.{AreColumns}
 use Rattle.element_core.specs.Terms.{Terms}
 use Rattle.command_runs.specs.Printed.{AreScanned, cell_answer, column_answers, labels_answers, labels_report}
 
--- what `print` writes of the labels of records as at most 4,096 images, for a scan in the same grid and year
+-- what `print` writes of the labels of records as at most 4,096 images, the most that `images_of` takes, for a scan in the same grid and year
 pub record IsPrintFor (scan : ScanOptions) (print : PrintOptions) (rows : List Fields) (labels : List Label) (bytes : List ℕ) : Type 0 where
   pub images : print.output ≡ output.Images
   pub same_grid : cells_of scan.grid ≡ cells_of print.grid
@@ -44,7 +44,8 @@ PrintedIsScanned =
     → IsPrintFor scan print rows labels bytes
     → (text : List ℕ) → IsScan scan bytes text ↔ (text ≡ labels_report (cells_of scan.grid) scan.year labels)
 
--- the same by place: a column has an answer for each row of cells of each sheet, and that of row r of sheet i answers the label that was printed there
+-- the answers of `PrintedIsAnswered` by place: a column has an answer for each row of cells of each sheet, that of the label which was printed in the cell
+-- there, or that the cell is blank
 abbrev pub AnswersByPlace : Type 0
 AnswersByPlace =
     (g : Cells) (year : Terms) (labels : List Label) (column : ℕ)

@@ -1,4 +1,4 @@
--- What a scan answers for the cells of printed labels.
+-- What a scan answers for the cells of printed labels (`printed.rt`).
 use Rattle.std.specs.Prelude.{◌≡◌, ◌≤◌, ◌+◌, ◌*◌, ℕ, List, [], Ok, Option, Some, None, length, map, slice_get}
 use Rattle.std.specs.List.{AllByRecursion, AllZip, flat_map, range_with_len}
 use Rattle.element_core.specs.Elements.{IsElements}
@@ -43,14 +43,14 @@ labels_answers g year labels = map (column_answers g year labels) (range_with_le
 abbrev pub labels_report : Cells → Terms → List Label → List ℕ
 labels_report g year labels = report (labels_answers g year labels)
 
--- ---- laws
+-- ---- what a scan of sheets answers, and the laws of it
 
 -- these are the answers of the columns of sheets
 abbrev pub AreScanned : Cells → List Bitmap → Terms → List (List Answer) → Type 0
 AreScanned g sheets year answers =
     (columns : List (List (List ℕ))) × AreColumns g sheets columns × AllZip (λ rows said. Reads rows year said) columns answers
 
--- printed sheets have the answers of their labels
+-- the law `printed_answer`: a scan of printed sheets answers what their labels say
 abbrev pub PrintedAnswer : Type 0
 PrintedAnswer =
     (labels : List Label) (g : Cells) (sheets : List Bitmap) (year : Terms)
@@ -58,11 +58,11 @@ PrintedAnswer =
     → AllByRecursion (SaysElements year) labels
     → AreScanned g sheets year (labels_answers g year labels)
 
--- sheets have one list of answers
+-- the law `scanned_once`: a scan of sheets answers one list
 abbrev pub ScannedOnce : Type 0
 ScannedOnce = (g : Cells) (sheets : List Bitmap) (year : Terms) (x y : List (List Answer)) → AreScanned g sheets year x → AreScanned g sheets year y → x ≡ y
 
--- printed sheets, at most 4,096, that are written as images and read again have the answers of their labels, and no others
+-- the law `written_answer`: printed sheets, at most 4,096 (as many as `images_of` takes), that are written as images and read again have the answers of their labels, and no others
 abbrev pub WrittenAnswer : Type 0
 WrittenAnswer =
     (labels : List Label) (g : Cells) (printed sheets : List Bitmap) (year : Terms) (answers : List (List Answer))

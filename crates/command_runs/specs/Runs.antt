@@ -12,7 +12,7 @@ pub record Command : Type 1 where
   pub writes : List ℕ → List ℕ → Type 0
   pub refuses : Option (List ℕ) → Option (List ℕ) → CommandFault → Type 0
 
--- a source gave all its bytes, and of the text that a command writes of them a sink took this
+-- a source gave all its bytes, and of the text that a command writes of them a sink took what `took` says (`Wrote` of wire_core is an event of a wire)
 abbrev pub Wrote : Command → (Option (List ℕ) → Option (List ℕ) → List ℕ → Type 0) → Option (List ℕ) → Option (List ℕ) → Option (List ℕ) → Option (List ℕ)
     → Type 0
 Wrote c took left rest before after = (bytes text : List ℕ) × GaveAll left rest bytes × c.writes bytes text × took before after text
@@ -21,7 +21,7 @@ Wrote c took left rest before after = (bytes text : List ℕ) × GaveAll left re
 abbrev pub TookNothing : Option (List ℕ) → Type 0
 TookNothing taken = IfSome taken (λ bytes. bytes ≡ [])
 
--- if nothing of it had failed before, this fault comes exactly if something fails
+-- if nothing of it had failed before, this fault comes exactly if something has failed by now
 abbrev pub TellsFault : {S X E : Type 0} → (S → Bool) → S → S → Result X E → E → Type 0
 TellsFault failed old new result fault = failed old ≡ false → (IsErrOf result fault ↔ (failed new ≡ true))
 
@@ -46,7 +46,7 @@ WritesOnce c = (bytes text other : List ℕ) → c.writes bytes text → c.write
 abbrev pub WritesRecords : {Item : Type 0} → Meaning Item → (List Item → List ℕ → Type 0) → List ℕ → List ℕ → Type 0
 WritesRecords means output bytes text = (items : List _) × Mean means bytes items × output items text
 
--- why the records are refused
+-- why a command refuses its records: what `Refuses` says of the same fault; of a failed write and a refused growth nothing is said
 abbrev pub RefusesRecords : {Item : Type 0} → Meaning Item → Option (List ℕ) → Option (List ℕ) → CommandFault → Type 0
 RefusesRecords means left rest command.ReadFault = Refuses means left rest records.ReadFault
 RefusesRecords means left rest command.InputSize = Refuses means left rest records.InputSize

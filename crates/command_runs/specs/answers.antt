@@ -1,3 +1,3 @@
--- Rows that are answered, and the report of their answers.
+-- What the report of answered rows is, and why the rows of records have none.
 pub mod Reports
 pub mod Rows

@@ -1,4 +1,4 @@
--- The commands.
+-- What each command makes of what it reads, a file for each command; what its words mean is in command_line.
 pub mod Checks
 pub mod Lanes
 pub mod Lives

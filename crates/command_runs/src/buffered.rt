@@ -6,9 +6,9 @@ use crate::write_buffer::{ROOM, WriteBuffer};
 use digits_core::{Failed, Sink};
 use std::marker::Model;
 
-/// A sink that lets up to 65,536 bytes wait, and writes them together to another, so that many small
-/// writes are few large ones. What waits at the end is written by `flush` alone. After a failure of
-/// the other sink it is not written to again.
+/// A sink that lets up to `ROOM` bytes wait, and writes them together to another, so that many small writes are few
+/// large ones. What waits counts as taken; at the end only `flush` writes it. Once the other sink has failed, nothing
+/// is written to it any more.
 #[derive(Drop)]
 pub struct Buffered<W: Sink> {
     sink: W,

@@ -16,6 +16,7 @@ use std::alloc::{AllocError, Global};
 fn is_of_size(grid: Grid, sheet: &Sheet) -> bool
     ensures { result ≡ has_size grid sheet.now }
 {
+    // A law, by which neither product overflows.
     grids_keep_limits(&grid);
     let width = grid.columns() * grid.cell_width();
     let height = grid.rows() * grid.cell_height();
@@ -34,6 +35,7 @@ fn push_column(
     requires size { has_size grid sheet.now ≡ true }
     ensures added { OnOk result (AddsDots (column_dots grid column sheet.now) rows.old.items rows.new.items) }
 {
+    // A law, by which `cell` does not overflow and the cell has a middle row.
     grids_keep_limits(&grid);
     for row in 0..grid.rows() {
         let cell = row * grid.columns() + column;
@@ -62,10 +64,12 @@ fn push_columns(
     Ok(())
 }
 
-/// What is kept of sheets: the rows of each column, and whether each sheet had the grid's size.
+/// What is kept of sheets.
 #[derive(Drop)]
 struct Kept {
+    /// The rows of each column, as long as each sheet has had the grid's size.
     feeds: Vec<Vec<Runs>>,
+    /// Whether each sheet has had the grid's size.
     fit: bool,
 }
 
@@ -96,7 +100,7 @@ impl SheetIntake for RowsByColumn {
     }
 }
 
-/// This many feeds without a row.
+/// An empty feed for each of this many columns.
 fn make_feeds(alloc: Global, columns: u16) -> Result<Vec<Vec<Runs>>, AllocError>
     ensures { IfOk result (λ v. items_of v.items ≡ replicate columns []) }
 {
@@ -107,8 +111,9 @@ fn make_feeds(alloc: Global, columns: u16) -> Result<Vec<Vec<Runs>>, AllocError>
     Ok(feeds)
 }
 
-/// The rows of each column of the images that a source gives: column `c` is lane `c`. None if an image has another
-/// size than the grid's. The rows of an image are cut before the next is read, and the image is not kept.
+/// The rows of each column of the images that a source gives: column `c` is lane `c`, and its rows are the middle rows
+/// of its cells, from top to bottom, sheet after sheet. None if an image has another size than the grid's. The rows of
+/// an image are cut before the next is read, and the image is not kept.
 pub fn read_columns<S: Source>(
     alloc: Global,
     grid: Grid,
@@ -117,8 +122,8 @@ pub fn read_columns<S: Source>(
     ensures read { ReadsColumns grid (S.left source.old) (S.left source.new) result }
     ensures fault { TellsFault S.failed source.old source.new result PbmFault.ReadFault }
 {
+    // Laws, by which no lane has more rows than a hub takes: a grid has few cells, and there are few images.
     grids_keep_limits(&grid);
-    // The law by which there are few images, and so few rows.
     files_are_read();
     let Ok(feeds) = make_feeds(alloc, grid.columns()) else {
         return Err(PbmFault::NoMemory);

@@ -22,7 +22,8 @@ use std::alloc::Global;
 use std::sync::Wait;
 use std::thread::Threads;
 
-/// Runs a command over its whole input. The gate is for the workers of those that read rows.
+/// Runs a command over its whole input. Nothing is written unless the whole input is taken. The gate is for the workers
+/// of `lanes` and `scan`.
 pub fn run<R: Threads + Wait + Sync, S: Source, W: Sink, G: Gate + Sync>(
     rt: &R,
     alloc: Global,
@@ -42,8 +43,8 @@ pub fn run<R: Threads + Wait + Sync, S: Source, W: Sink, G: Gate + Sync>(
     }
 }
 
-/// Runs a command before whose sink a buffer stands, and writes what waits in it at the end. Before it runs nothing
-/// waits, and nothing is known to have been taken.
+/// Runs a command with a buffer before its sink, and at the end writes what waits in the buffer. At first nothing may
+/// wait, and the sink must not be known to have taken bytes.
 fn run_and_flush<R: Threads + Wait + Sync, S: Source, W: Sink, G: Gate + Sync>(
     rt: &R,
     alloc: Global,
@@ -62,9 +63,8 @@ fn run_and_flush<R: Threads + Wait + Sync, S: Source, W: Sink, G: Gate + Sync>(
     Ok(())
 }
 
-/// Runs a command over its whole input, and lets up to 65,536 bytes wait before its sink, so that many small writes
-/// are few large ones. If the run or a write fails, what still waits is dropped. The sink, which had not failed and
-/// is not known to have taken bytes, is given back.
+/// Does as `run`, through a buffer before the sink (`Buffered`). If the run or a write fails, what still waits is
+/// dropped. The sink must not have failed, and must not be known to have taken bytes; it is given back.
 pub fn run_buffered<R: Threads + Wait + Sync, S: Source, W: Sink, G: Gate + Sync>(
     rt: &R,
     alloc: Global,

@@ -13,40 +13,39 @@ use std::alloc::AllocError;
 use std::fmt;
 use thiserror::Error;
 
-/// Why a command as a whole is refused.
+/// Why a command as a whole is refused. If a lower layer has a fault of the same name, that says more of it.
 #[derive(Clone, Copy, Debug, PartialEq, Eq, Error)]
 pub enum CommandFault {
     /// A read of the input failed.
     ReadFault,
     /// A write of the output failed.
     WriteFault,
-    /// The record at this index, from 0, is the first that has a fault.
+    /// The fault of the record at this index, as `RecordsFault::Record`.
     Record(usize, RecordFault),
     /// A growth was refused.
     NoMemory,
-    /// The input has more bytes than a command reads.
+    /// The input is longer than `INPUT_LIMIT` of csv_records.
     InputSize,
     /// The numbers of the grid are wrong together.
     BadGrid,
-    /// The label at this index, from 0, is the first that is not printed, and has no such symbol.
+    /// The label at this index, from 0, is the first that cannot be printed, for `SheetFault::LabelKind`.
     LabelKind(usize),
-    /// The label at this index, from 0, is the first that is not printed, and is wider than its cell.
+    /// The label at this index, from 0, is the first that cannot be printed, for `SheetFault::LabelWidth`.
     LabelWidth(usize),
-    /// An image does not begin with `P4`.
+    /// `PbmFault::NotP4`.
     NotP4,
-    /// A byte cannot stand at its place in the header of an image, or lies past the 4,096 bytes of one.
+    /// `PbmFault::PbmHeader`.
     PbmHeader,
-    /// The input ends within an image.
+    /// `PbmFault::Truncated`.
     Truncated,
-    /// A width or height of an image is 0 or above 65,535, there are more than 4,096 images, or one has not
-    /// the size of the grid.
+    /// `PbmFault::PbmSize`, or an image has not the size of the grid.
     PbmSize,
     /// A thread could not be started.
     NoThread,
 }
 
 impl CommandFault {
-    /// The refusal that the line on standard error reports, after the record's index if it has one.
+    /// The refusal that the line on standard error reports. If it is a record's, its index stands before it.
     pub fn refusal(self) -> Refusal
         ensures { refusal_text result.kind result.place ≡ command_refusal_text self }
     {
@@ -79,6 +78,8 @@ impl fmt::Display for CommandFault {
         }
     }
 }
+
+// A fault of each lower layer, as the command's. specs/Faults has the same tables, which the clauses `from_gives` name.
 
 impl From<AllocError> for CommandFault {
     ghost from_gives = { λ refused command. command ≡ no_memory };

@@ -1,6 +1,6 @@
-//! The commands: rows through the hub and the lines that answer them, of records, of the columns of sheets, and of an input
-//! that is answered as it comes; a run of each command, and why it is refused as a whole. tests/using/items.txt lists what it
-//! exports, and tests/using/run compares the two.
+//! A run of each command, why it is refused as a whole (`CommandFault`), and laws about what it writes.
+//!
+//! `tests/using/items.txt` lists what is exported here, and `tests/using/run` fails if the two differ.
 #![tactic(auto)]
 
 mod answers;

@@ -1,11 +1,12 @@
-//! Laws about the answers of printed sheets, each the contract of a function that does nothing.
+//! Laws about the answers of printed sheets, each the contract of a function that does nothing. laws.rt says of the
+//! commands what these say of sheets.
 ghost use Rattle.command_runs.specs.Printed.{PrintedAnswer, ScannedOnce, WrittenAnswer};
 
 use scan_core::{dots_determine, dots_make_row, one_answer};
 use sheet_core::{bar_rows_answer, empty_cells_are_blank};
 
-/// The columns of printed sheets have the answers of the labels, cell by cell: the carrier and the
-/// elements of a label, or that the cell is blank.
+/// If the text of each label says its elements under the reference year, the columns of the printed sheets have the
+/// answers of the labels, cell by cell: the carrier and the elements of a label, or that the cell is blank.
 pub fn printed_answer()
     ensures { PrintedAnswer }
 {
@@ -14,7 +15,7 @@ pub fn printed_answer()
     dots_make_row();
 }
 
-/// The columns of sheets have one list of answers.
+/// The columns of sheets have one list of answers at most.
 pub fn scanned_once()
     ensures { ScannedOnce }
 {
@@ -22,8 +23,8 @@ pub fn scanned_once()
     one_answer();
 }
 
-/// Printed sheets, at most 4,096, that are written as images and read again have the answers of their
-/// labels, and no others.
+/// Printed sheets, at most 4,096 (as many as are read), that are written as images and read again have the answers that
+/// `printed_answer` gives them, and no others.
 pub fn written_answer()
     ensures { WrittenAnswer }
 {

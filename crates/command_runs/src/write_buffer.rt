@@ -3,10 +3,11 @@ ghost use Rattle.std.specs.Prelude.{◌≡◌, ◌+◌, ◌≤◌, ◌++◌, ◌
 
 use std::marker::Model;
 
-/// How many bytes wait at most.
+/// How many bytes wait at most, a choice for speed. Contracts see it as 65536, and tests/commands/failures_test.py
+/// breaks an output off around it.
 pub const ROOM: usize = 65_536;
 
-/// At most 65,536 bytes that wait. They are in an array, since an `ArrayVec` sets each byte to 0 that it drops.
+/// At most `ROOM` bytes that wait. They are in an array, since an `ArrayVec` sets each byte to 0 that it drops.
 #[derive(Drop)]
 pub struct WriteBuffer {
     bytes: [u8; ROOM],

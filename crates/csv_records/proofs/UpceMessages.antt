@@ -14,16 +14,18 @@ use Rattle.message_core.proofs.SpelledUpce.{no_end}
 use Rattle.message_core.proofs.UpceDigits.{one_fault, said_not_refused}
 use Rattle.csv_records.specs.Laws.{UpceAsChecked}
 
+-- what the line of a message says of a GTIN, as `IsUpceSaid` writes it out for the word `]E0`
 abbrev said_of : Form → List ℕ → List ℕ
 said_of f gtin = codes "]E0" ++ (32 ∷ elements_text f (gtin_entry gtin ∷ []))
 
-both : (f : Form) (digits line said : List ℕ) → IsUpceLine line_of_gtin digits line → IsUpceLine (said_of f) digits said
+-- one of the two cases of the law holds, for a line of `check` and a line of a message that have the same digits
+upce_cases : (f : Form) (digits line said : List ℕ) → IsUpceLine line_of_gtin digits line → IsUpceLine (said_of f) digits said
     → ((gtin : List ℕ) × (line ≡ line_of_gtin gtin) × (said ≡ said_of f gtin))
     ⊎ ((fault : DigitFault) × (line ≡ digit_fault_text fault) × (said ≡ digit_fault_text fault))
-both f digits line said (inl (g, none, is, here)) (inl (o, also, it, there)) = inl (g, here, there ∙ ap (said_of f) (it.number ∙ sym is.number))
-both f digits line said (inl (g, none, is, here)) (inr (q, because, there)) = absurd (said_not_refused digits g q none is because)
-both f digits line said (inr (q, because, here)) (inl (g, none, is, there)) = absurd (said_not_refused digits g q none is because)
-both f digits line said (inr (q, because, here)) (inr (p, other, there)) =
+upce_cases f digits line said (inl (g, none, is, here)) (inl (o, also, it, there)) = inl (g, here, there ∙ ap (said_of f) (it.number ∙ sym is.number))
+upce_cases f digits line said (inl (g, none, is, here)) (inr (q, because, there)) = absurd (said_not_refused digits g q none is because)
+upce_cases f digits line said (inr (q, because, here)) (inl (g, none, is, there)) = absurd (said_not_refused digits g q none is because)
+upce_cases f digits line said (inr (q, because, here)) (inr (p, other, there)) =
     inr (q, here, there ∙ ap digit_fault_text (one_fault digits p q other because))
 
 pub upce_as_checked : UpceAsChecked
@@ -31,4 +33,4 @@ upce_as_checked f year digits line said size are checked (text, trimmed, h) =
     let whole : List ℕ = codes "]E0" ++ digits in
     let same : text ≡ whole = trim_ascii_end_is whole text trimmed ∙ sym (trim_ascii_end_is whole whole (no_end digits (omega (arith, size)) are)) in
     let message : IsEanUpcBy (length digits == 8) (codes "]E0") f digits said = subst (λ t. IsHeadLine f year t (head_of t) said) same h in
-    both f digits line said checked (subst (λ n. IsEanUpcBy (n == 8) (codes "]E0") f digits said) size message)
+    upce_cases f digits line said checked (subst (λ n. IsEanUpcBy (n == 8) (codes "]E0") f digits said) size message)

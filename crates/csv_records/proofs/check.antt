@@ -1,1 +1,2 @@
+-- The lemmas of the proofs of `src/check/`.
 pub mod CheckLinesGrow

@@ -1,3 +1,4 @@
+-- The lemmas of the proofs of `src/lanes/`.
 pub mod Capped
 pub mod DigitWidths
 pub mod FieldFaults

@@ -1,1 +1,2 @@
+-- The lemmas of the proofs of `src/print/`.
 pub mod LabelLinesGrow

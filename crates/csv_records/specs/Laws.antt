@@ -1,4 +1,4 @@
--- Records beside the messages of scanners.
+-- Laws about records and the messages of scanners: src/laws.rt has a function for each.
 use Rattle.std.specs.Prelude.{◌≡◌, ◌⊎◌, ◌++◌, ℕ, true, List, [], ◌∷◌, Some, codes, length}
 use Rattle.digits_core.specs.Digits.{AreAsciiDigits}
 use Rattle.digits_core.specs.Faults.{digit_fault_text}
@@ -14,11 +14,11 @@ use Rattle.csv_records.specs.declared.check.answer.CheckKind.TheVariants.{Upce}
 use Rattle.element_core.specs.Terms.{Terms}
 use Rattle.csv_records.specs.declared.input.fault.RecordFault.TheVariants.{BadRuns}
 
--- no message is a row: a field that is one has no widths
+-- no message of a scanner is a row: as a field of widths it is refused with `BadRuns`
 abbrev pub MessagesAreNoRows : Type 0
 MessagesAreNoRows = (text : List ℕ) → is_message text ≡ true → field_fault text ≡ Some BadRuns
 
--- eight digits behind `]E0` are answered as `check` answers them as a UPC-E: with the same GTIN, or with the same refusal
+-- eight digits behind `]E0` have the GTIN, or the refusal, that `check` gives them as a UPC-E
 abbrev pub UpceAsChecked : Type 0
 UpceAsChecked = (f : Form) (year : Terms) (digits line said : List ℕ) → length digits ≡ 8 → AreAsciiDigits digits → IsLineAs year Upce digits line
     → IsMessageLine f year (codes "]E0" ++ digits) said

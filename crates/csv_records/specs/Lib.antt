@@ -1,3 +1,4 @@
+-- What records mean to each command, and the lines that answer them; `inner` is for the inside of the crate.
 pub mod Laws
 pub mod check
 pub mod inner

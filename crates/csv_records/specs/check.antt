@@ -1,1 +1,2 @@
+-- The records of `check`.
 pub mod Checks

@@ -1,3 +1,3 @@
 -- Definitions for the inside of the crate: types, private contracts and proofs name them, and no public contract reaches them.
-pub mod Records
-pub mod Widths
+pub mod FrontWidths
+pub mod Refusals

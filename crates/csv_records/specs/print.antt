@@ -1,1 +1,2 @@
+-- The records of `print`.
 pub mod Labels

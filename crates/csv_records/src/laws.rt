@@ -1,12 +1,13 @@
-//! Laws of records beside the messages of scanners: each function does nothing, and its contract is the law.
+//! Laws about records and the messages of scanners: each function does nothing, and its contract is the law.
+//! specs/Laws.antt states it; the comment there must agree with the one here.
 ghost use Rattle.csv_records.specs.Laws.{MessagesAreNoRows, UpceAsChecked};
 
-/// No message is a row: a field that is one is refused as widths.
+/// No message of a scanner is a row: as a field of widths it is refused with `BadRuns`.
 pub fn messages_are_no_rows()
     ensures { MessagesAreNoRows }
 {}
 
-/// Eight digits behind `]E0` are answered as `check` answers them as a UPC-E.
+/// Eight digits behind `]E0` have the GTIN, or the refusal, that `check` gives them as a UPC-E.
 pub fn upce_as_checked()
     ensures { UpceAsChecked }
 {}

@@ -9,9 +9,10 @@ use Rattle.std.proofs.lemmas.List.Sums.{sum_by-append}
 use Rattle.lane_core.specs.declared.job.Plain.{Plain}
 use Rattle.lane_core.specs.Weights.{once}
 use Rattle.hub_core.specs.inner.DrainedLists.{DrainsInto, Listed}
-use Rattle.hub_core.proofs.ListsOfLists.{one_more}
-use Rattle.hub_core.proofs.ListFacts.{get_set}
+use Rattle.hub_core.proofs.ListsOfLists.{sum_one_more}
+use Rattle.hub_core.proofs.ListsByPlace.{get_set}
 
+-- a delivery of another lane
 not_of : (l : ℕ) (x : Plain) → x.lane ≢ l → count_by (λ (y : Plain). y.lane == l) (x ∷ []) ≡ 0
 not_of l x apart = let e = ap once (ne_eqb x.lane l apart) in omega arith
 
@@ -20,10 +21,10 @@ same_room : (t : List Listed) (l : ℕ) (v w : Listed) → slice_get t l ≡ Som
 same_room t l v w e f =
     let s = same_Some v w (sym e ∙ f) in (ap (λ (u : Listed). vec_capacity u) (sym s), (let n = ap (λ (u : Listed). vec_len u) s in omega arith))
 
--- it was dropped: no list has changed
-pub dropped : (old new : List Listed) (x : Plain) → new ≡ old → ((w : Listed) → slice_get old x.lane ≡ Some w → vec_capacity w ≤ vec_len w)
+-- the delivery was dropped: no list has changed
+pub drains_dropped : (old new : List Listed) (x : Plain) → new ≡ old → ((w : Listed) → slice_get old x.lane ≡ Some w → vec_capacity w ≤ vec_len w)
     → DrainsInto old new (x ∷ [])
-dropped old new x is no_room = subst (λ (zs : List Listed). DrainsInto old zs (x ∷ [])) (sym is) record {
+drains_dropped old new x is no_room = subst (λ (zs : List Listed). DrainsInto old zs (x ∷ [])) (sym is) record {
   counted = refl;
   room = same_room old;
   own = λ own. own;
@@ -35,15 +36,16 @@ dropped old new x is no_room = subst (λ (zs : List Listed). DrainsInto old zs (
       (cases_eq x.lane l);
 }
 
+-- the list of lane l has one more of its own
 own_more : (l : ℕ) (xs : List Plain) (x : Plain) → x.lane ≡ l → list_all (λ (y : Plain). y.lane == l) xs ≡ true
     → list_all (λ (y : Plain). y.lane == l) (xs ++ x ∷ []) ≡ true
 own_more l xs x is all = list_all-append (λ (y : Plain). y.lane == l) xs (x ∷ [])
     ∙ and_from (list_all (λ (y : Plain). y.lane == l) xs) ((x.lane == l) && true) all (and_from (x.lane == l) true (eq-eqb x.lane l is) refl)
 
--- it has its place
-pub put : (old new : List Listed) (l : ℕ) (v w : Listed) (x : Plain) → l < length old → v ≡ get_or old l v → new ≡ set old l w → x.lane ≡ l
+-- the delivery was put at the end of its lane's list
+pub drains_put : (old new : List Listed) (l : ℕ) (v w : Listed) (x : Plain) → l < length old → v ≡ get_or old l v → new ≡ set old l w → x.lane ≡ l
     → w.items ≡ v.items ++ x ∷ [] → vec_capacity w ≡ vec_capacity v → vec_len v ≤ vec_len w → DrainsInto old new (x ∷ [])
-put old new l v w x low at is lane more same longer =
+drains_put old new l v w x low at is lane more same longer =
     let there = slice_get_read old (length old) l v refl low at in
     subst (λ (zs : List Listed). DrainsInto old zs (x ∷ [])) (sym is) record {
       counted = length-set old l w;
@@ -65,10 +67,11 @@ put old new l v w x low at is lane more same longer =
           (λ (g : (k ≢ l) × (slice_get old k ≡ Some b)). own k b g.1)
           (get_set old l k w b f);
       dropped = [];
-      whole = λ h. let a = one_more (λ (u : Listed). u.items) h old (set old l w) l v v w x low at more refl in omega arith;
+      whole = λ h. let a = sum_one_more (λ (u : Listed). u.items) h old (set old l w) l v v w x low at more refl in omega arith;
       full = λ k b f room. refl;
     }
 
+-- no step
 pub drained_none : (t : List Listed) → DrainsInto t t []
 drained_none t = record {
   counted = refl;
@@ -79,6 +82,7 @@ drained_none t = record {
   full = λ l w e low. refl;
 }
 
+-- two steps as one
 pub drained_then : (t u v : List Listed) (xs ys : List Plain) → DrainsInto t u xs → DrainsInto u v ys → DrainsInto t v (xs ++ ys)
 drained_then t u v xs ys f g = record {
   counted = g.counted ∙ f.counted;
@@ -102,9 +106,11 @@ drained_then t u v xs ys f g = record {
       omega (arith, sum_by-append (λ (x : Plain). once (x.lane == l)) f.dropped g.dropped);
 }
 
+-- past the last list none stands
 pub beyond : (old : List Listed) (l : ℕ) (w : Listed) → slice_get old l ≡ Some w → length old ≤ l → ⊥
 beyond old l w e past = let k = slice_get_within old l w e in omega arith
 
+-- lane m's list is full, since it is list l
 pub full_there : (old : List Listed) (l m : ℕ) (v : Listed) → l < length old → v ≡ get_or old l v → l ≡ m → vec_capacity v ≤ vec_len v → (w : Listed)
     → slice_get old m ≡ Some w → vec_capacity w ≤ vec_len w
 full_there old l m v low at is full w e =

@@ -1,4 +1,4 @@
--- One more delivery out of a queue, a hand, a ring or what waits: for the functions of `drain`.
+-- One more delivery out of a queue, a hand, a ring or what waits, until a queue or a ring has none left: for the functions of `drain`.
 use Rattle.std.proofs.Common.{◌≡◌, ℕ, ◌+◌, ◌≤◌, List, [], ◌∷◌, ◌++◌, length, map, option_to_list, sym, ap, ◌∙◌, subst, arith, append_assoc, append-nil}
 use Rattle.std.specs.List.{flat_map, sum_by}
 use Rattle.std.proofs.lemmas.List.Sums.{sum_by-append}
@@ -8,7 +8,7 @@ use Rattle.hub_core.specs.declared.rule.Trace.{Trace}
 use Rattle.hub_core.specs.declared.worker_seat.WorkerSeat.{WorkerSeat}
 use Rattle.hub_core.specs.inner.DrainedLists.{DrainsInto, Listed, Drains}
 use Rattle.hub_core.specs.Rule.{trace}
-use Rattle.hub_core.specs.inner.Workers.{jobs_in_hand}
+use Rattle.hub_core.specs.inner.Workers.{deliveries_in_hand}
 use Rattle.hub_core.proofs.DrainsAddUp.{drained_then}
 use Rattle.std.proofs.lemmas.List.{flat_map_more}
 
@@ -17,7 +17,7 @@ pub drains_more : (t u v : List Listed) (ys : List Plain) (P Q : List Plain → 
     → Drains t v Q
 drains_more t u v ys P Q was more next = (was.0 ++ ys, drained_then t u v was.0 ys was.1 more, next was.0 was.2)
 
--- one more out of a queue
+-- one more out of a queue, by the pass that has all 1,024 shares (`IsOneForOne`)
 pub popped_more : (b v w : Trace) (x y : Plain) (t u u' : List Listed) → v.shares ≡ 1024 → v.pushed ≡ b.pushed → Drains t u (OneForOne v.popped b.popped)
     → w ≡ trace v.shares v.pushed (v.popped ++ x ∷ []) → y ≡ x → DrainsInto u u' (y ∷ [])
     → (w.shares ≡ 1024) × (w.pushed ≡ b.pushed) × Drains t u' (OneForOne w.popped b.popped)
@@ -60,7 +60,7 @@ rest_all i n [] known got got' all all' xs left end was fifo same same' =
 rest_all i n (k ∷ ks) known got got' all all' xs left end was fifo same same' = absurd (omega arith)
 
 -- one more hand
-pub hands_drained : (t u u' : List Listed) (ss : List WorkerSeat) (s : WorkerSeat) → DrainsInto t u (flat_map jobs_in_hand ss)
-    → DrainsInto u u' (option_to_list s.held) → DrainsInto t u' (flat_map jobs_in_hand (ss ++ s ∷ []))
-hands_drained t u u' ss s was more = subst (λ (l : List Plain). DrainsInto t u' l) (flat_map_more jobs_in_hand [] ss s)
-    (drained_then t u u' (flat_map jobs_in_hand ss) (option_to_list s.held) was more)
+pub hands_drained : (t u u' : List Listed) (ss : List WorkerSeat) (s : WorkerSeat) → DrainsInto t u (flat_map deliveries_in_hand ss)
+    → DrainsInto u u' (option_to_list s.held) → DrainsInto t u' (flat_map deliveries_in_hand (ss ++ s ∷ []))
+hands_drained t u u' ss s was more = subst (λ (l : List Plain). DrainsInto t u' l) (flat_map_more deliveries_in_hand [] ss s)
+    (drained_then t u u' (flat_map deliveries_in_hand ss) (option_to_list s.held) was more)

@@ -1,4 +1,4 @@
--- The deliverer and what it has given, call by call: `Accounted` rests on it.
+-- The deliverer has given each lane its numbers in order (`GivenInOrder`): at first, and as it gives a lane its next.
 use Rattle.std.proofs.Common.{◌≡◌, ◌≢◌, ◌+◌, ◌<◌, ◌∷◌, ◌∙◌, ◌++◌, [], List, ℕ, ap, arith, get_or, inl, inr, length, ltb, replicate, set, subst, sym, true}
 use Rattle.std.proofs.lemmas.Bool.{cases_eq}
 use Rattle.std.proofs.lemmas.List.{get_or-set_other, get_or-set_same, length-append, length-replicate, length-set}
@@ -7,6 +7,7 @@ use Rattle.lane_core.specs.ReorderBuffer.{ReorderBuffer, GivesNext, is_known, la
 use Rattle.lane_core.specs.declared.job.Plain.{Plain}
 use Rattle.lane_core.specs.Tickets.{is_ticket_of, numbered}
 use Rattle.lane_core.specs.Weights.{once}
+use Rattle.hub_core.specs.Traffics.{with_more}
 use Rattle.hub_core.specs.inner.Accounting.{GivenInOrder}
 use Rattle.hub_core.proofs.ListsOfLists.{empties_at}
 use Rattle.lane_core.proofs.ListFacts.{get_or_zeros}
@@ -20,9 +21,9 @@ next_own d e l x low g = ap (λ ns. get_or ns l 0) g.nexts ∙ get_or-set_same d
 next_other : (d e : ReorderBuffer) (l m : ℕ) (x : Plain) → m ≢ l → GivesNext d l x e → next_of e m ≡ next_of d m
 next_other d e l m x apart g = ap (λ ns. get_or ns m 0) g.nexts ∙ get_or-set_other d.nexts l m (next_of d l + 1) 0 apart
 
--- a lane was given its next number
+-- a lane is given its next number
 pub gives_in_order : (d e : ReorderBuffer) (l : ℕ) (x : Plain) (gs : List (List Plain)) → l < lanes_of d → GivesNext d l x e → GivenInOrder d gs
-    → GivenInOrder e (set gs l (get_or gs l [] ++ x ∷ []))
+    → GivenInOrder e (with_more l x gs)
 gives_in_order d e l x gs low g giving =
     let old = get_or gs l [] in
     let new = old ++ x ∷ [] in

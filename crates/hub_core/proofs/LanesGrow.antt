@@ -37,37 +37,41 @@ rows_and_one l year issued xs ys row was count is =
     is ∙ (ap (λ zs. zs ++ plain_of l issued year row ∷ []) was ∙ (ap (λ m. numbered_rows l 0 year rows ++ plain_of l m year row ∷ []) (sym at)
     ∙ (sym (rows_append l 0 year rows (row ∷ [])) ∙ ap (numbered_rows l 0 year) (sym more))))
 
+-- an item before a list that is one of two
 put_in : (b : Bool) (p : Plain) (xs ys : List Plain) → p ∷ cond b xs ys ≡ cond b (p ∷ xs) (p ∷ ys)
 put_in true p xs ys = refl
 put_in false p xs ys = refl
 
+-- what was kept from number n on, and x if it is the next number
+abbrev kept_with : ℕ → ℕ → List Plain → Plain → List Plain
+kept_with lane n xs x = cond (is_ticket_of lane (n + length xs) x) (xs ++ x ∷ []) xs
+
+-- what is kept of one more, behind a first item that is kept if b is so
 at_last : (b : Bool) (lane n : ℕ) (p : Plain) (ps : List Plain) (x : Plain)
-    → kept lane (suc n) (ps ++ x ∷ []) ≡ cond ((x.lane == lane) && (x.number == suc n + length (kept lane (suc n) ps))) (kept lane (suc n) ps ++ x ∷ [])
-    (kept lane (suc n) ps)
-    → kept lane n (ps ++ x ∷ []) ≡ cond ((x.lane == lane) && (x.number == n + length (kept lane n ps))) (kept lane n ps ++ x ∷ []) (kept lane n ps)
-    → cond b (p ∷ kept lane (suc n) (ps ++ x ∷ [])) (kept lane n (ps ++ x ∷ []))
-    ≡ cond ((x.lane == lane) && (x.number == n + length (cond b (p ∷ kept lane (suc n) ps) (kept lane n ps))))
-    (cond b (p ∷ kept lane (suc n) ps) (kept lane n ps) ++ x ∷ []) (cond b (p ∷ kept lane (suc n) ps) (kept lane n ps))
+    → kept lane (suc n) (ps ++ x ∷ []) ≡ kept_with lane (suc n) (kept lane (suc n) ps) x
+    → kept lane n (ps ++ x ∷ []) ≡ kept_with lane n (kept lane n ps) x
+    → cond b (p ∷ kept lane (suc n) (ps ++ x ∷ [])) (kept lane n (ps ++ x ∷ [])) ≡ kept_with lane n (cond b (p ∷ kept lane (suc n) ps) (kept lane n ps)) x
 at_last true lane n p ps x is _ =
-    let e : suc n + length (kept lane (suc n) ps) ≡ n + suc (length (kept lane (suc n) ps)) = omega arith in
-    ap (λ l. p ∷ l) is ∙ (put_in ((x.lane == lane) && (x.number == suc n + length (kept lane (suc n) ps))) p (kept lane (suc n) ps ++ x ∷ [])
-    (kept lane (suc n) ps)
-    ∙ ap (λ m. cond ((x.lane == lane) && (x.number == m)) (p ∷ (kept lane (suc n) ps ++ x ∷ [])) (p ∷ kept lane (suc n) ps)) e)
+    let rest = kept lane (suc n) ps in
+    let e : suc n + length rest ≡ n + suc (length rest) = omega arith in
+    ap (λ l. p ∷ l) is ∙ (put_in (is_ticket_of lane (suc n + length rest) x) p (rest ++ x ∷ []) rest
+    ∙ ap (λ m. cond (is_ticket_of lane m x) (p ∷ (rest ++ x ∷ [])) (p ∷ rest)) e)
 at_last false lane n p ps x _ is = is
 
-kept_more : (lane n : ℕ) (ps : List Plain) (x : Plain)
-    → kept lane n (ps ++ x ∷ []) ≡ cond ((x.lane == lane) && (x.number == n + length (kept lane n ps))) (kept lane n ps ++ x ∷ []) (kept lane n ps)
-kept_more lane n [] x = let e : n ≡ n + 0 = omega arith in ap (λ m. cond ((x.lane == lane) && (x.number == m)) (x ∷ []) []) e
-kept_more lane n (p ∷ ps) x = at_last ((p.lane == lane) && (p.number == n)) lane n p ps x (kept_more lane (suc n) ps x) (kept_more lane n ps x)
+-- what is kept of one more: it too, if it is the lane's next number
+kept_more : (lane n : ℕ) (ps : List Plain) (x : Plain) → kept lane n (ps ++ x ∷ []) ≡ kept_with lane n (kept lane n ps) x
+kept_more lane n [] x = let e : n ≡ n + 0 = omega arith in ap (λ m. cond (is_ticket_of lane m x) (x ∷ []) []) e
+kept_more lane n (p ∷ ps) x = at_last (is_ticket_of lane n p) lane n p ps x (kept_more lane (suc n) ps x) (kept_more lane n ps x)
 
 -- what is polled, by whether the delivery is the lane's next
 pub polled_more : (lane k : ℕ) (old new : List Plain) (x : Plain) (b : Bool) → new ≡ old ++ x ∷ [] → k ≡ length (kept lane 0 old) → is_ticket_of lane k x ≡ b
     → kept lane 0 new ≡ cond b (kept lane 0 old ++ x ∷ []) (kept lane 0 old)
 polled_more lane k old new x b is count test =
     let e : 0 + length (kept lane 0 old) ≡ k = omega arith in
-    ap (kept lane 0) is ∙ (kept_more lane 0 old x ∙ (ap (λ m. cond ((x.lane == lane) && (x.number == m)) (kept lane 0 old ++ x ∷ []) (kept lane 0 old)) e
+    ap (kept lane 0) is ∙ (kept_more lane 0 old x ∙ (ap (λ m. cond (is_ticket_of lane m x) (kept lane 0 old ++ x ∷ []) (kept lane 0 old)) e
     ∙ ap (λ c. cond c (kept lane 0 old ++ x ∷ []) (kept lane 0 old)) test))
 
+-- what `poll` asks of the ticket is `is_ticket_of` of the delivery
 pub test_of : (tl tn xl xn lane k : ℕ) (r b : Bool) → r ≡ ((tl == lane) && (tn == k)) → tl ≡ xl → tn ≡ xn → r ≡ b → ((xl == lane) && (xn == k)) ≡ b
 test_of tl tn xl xn lane k r b is l n at = (λ i. (sym l i == lane) && (sym n i == k)) ∙ (sym is ∙ at)
 

@@ -11,9 +11,9 @@ pub mod HubIsShared
 pub mod LanesAreCounted
 pub mod LanesGetTheirRows
 pub mod LanesGrow
-pub mod ListFacts
 pub mod ListIsSorted
 pub mod ListsAreSorted
+pub mod ListsByPlace
 pub mod ListsHaveRoom
 pub mod ListsHaveUnpolled
 pub mod ListsOfLists
@@ -32,7 +32,7 @@ pub mod SeatsServeTraffic
 pub mod ServedAreRead
 pub mod ServedFirst
 pub mod SumFacts
+pub mod TestsAndCounts
 pub mod ThreadGoesOn
-pub mod TruthFacts
 pub mod UnpolledIsCounted
 pub mod WorkerTakesOne

@@ -19,12 +19,13 @@ use Rattle.hub_core.specs.Lanes.{lane_of, polled, received, submitted}
 use Rattle.hub_core.specs.inner.Draining.{Finds}
 use Rattle.hub_core.specs.inner.Sums.{sum_all}
 use Rattle.lane_core.proofs.ListFacts.{get_back, get_map}
-use Rattle.hub_core.proofs.PartsAreAState.{Whole, by_seat, one_lane}
+use Rattle.hub_core.proofs.PartsAreAState.{Whole, by_seat, one_seat_a_lane}
 use Rattle.hub_core.proofs.ListIsSorted.{all_same}
-use Rattle.hub_core.proofs.ListFacts.{is_there}
+use Rattle.hub_core.proofs.ListsByPlace.{is_there}
 use Rattle.hub_core.proofs.SumFacts.{sum_by-map, sum_same, sum_by_places}
 use Rattle.lane_core.proofs.WeightFacts.{sum_ones}
 
+-- lists with no item in all are empty, and so each has deliveries of its own lane alone (`AreOwn`)
 empty_at : (lists : List Listed) (l : ℕ) (v : Listed) → sum_all (λ (_ : Plain). 1) (items_of lists) ≡ 0 → slice_get lists l ≡ Some v → v.items ≡ []
 empty_at [] l v none e = absurd (cc)
 empty_at (x ∷ xs) zero v none e =
@@ -55,9 +56,11 @@ sum_sorted h (v ∷ vs) (w ∷ ws) long same =
 abbrev list_at : List Listed → ℕ → List Plain
 list_at lists l = get_or (items_of lists) l []
 
+-- the same, by `slice_get`
 list_is : (lists : List Listed) (l : ℕ) (w : Listed) → slice_get lists l ≡ Some w → w.items ≡ list_at lists l
 list_is lists l w e = sym (get_or_from_slice_get (items_of lists) l w.items [] (get_map (λ (u : Listed). u.items) lists l w e))
 
+-- a lane's claim, for the law `claims_settle` of lane_core
 abbrev claim_of : List Listed → LaneSeat → Claim
 claim_of lists s = record { lane = lane_of s; submitted = submitted s; polled = polled s; given = list_at lists (lane_of s) }
 
@@ -70,6 +73,7 @@ record Lists (made drained sorted : List Listed) (l : ℕ) : Type 0 where
   at_end : slice_get drained l ≡ Some end
   at_list : slice_get sorted l ≡ Some list
 
+-- they are there, if there are n of each kind
 lists_at : (made drained sorted : List Listed) (l n : ℕ) → l < n → length made ≡ n → length drained ≡ n → length sorted ≡ n → Lists made drained sorted l
 lists_at made drained sorted l n low a b c =
     let x = is_there made l (omega arith) in
@@ -77,16 +81,17 @@ lists_at made drained sorted l n low a b c =
     let z = is_there sorted l (omega arith) in
     record { start = x.0; end = y.0; list = z.0; at_start = x.1; at_end = y.1; at_list = z.1 }
 
--- each lane's list is what it had not polled
+-- each lane's list is what it had not polled of what it has submitted
 abbrev pub Owes : List LaneSeat → List (List Plain) → Type 0
 Owes lanes lists = (i : ℕ) (v : LaneSeat) → slice_get lanes i ≡ Some v → polled v ++ get_or lists (lane_of v) [] ≡ submitted v
 
+-- so it is at the end, by the law `claims_settle`: the lists were made empty, drained into and sorted
 pub owed : (ls : List LaneSeat) (ws : List WorkerSeat) (d : DelivererSeat) (jobs results found : List Plain) (n : ℕ) (made drained sorted : List Listed)
     → ClaimsSettle → Finds ls ws d jobs results found → Whole ls ws d jobs results → lane_count d ≡ n → AreMade ls n made → DrainsInto made drained found
     → Sorts drained sorted → Owes ls (items_of sorted)
 owed ls ws d jobs results found n made drained sorted claims_settle finds whole count are_made drains sorts =
     let m = lane_count d in
-    let one = one_lane m ls whole.each in
+    let one = one_seat_a_lane m ls whole.each in
     let long_made : length made ≡ m = are_made.counted ∙ sym count in
     let long_drained : length drained ≡ m = drains.counted ∙ long_made in
     let long_sorted : length sorted ≡ m = sorts.0 ∙ long_drained in

@@ -12,6 +12,7 @@ use Rattle.hub_core.specs.inner.Rule.{JoinsPops, JoinsPushes}
 use Rattle.hub_core.specs.Workers.{posted, taken}
 use Rattle.std.proofs.lemmas.List.{flat_map_more}
 
+-- traces of the same parts are the same
 pub trace_is : (a b : ℕ) (c d e f : List Plain) → a ≡ b → c ≡ d → e ≡ f → trace a c e ≡ trace b d f
 trace_is a b c d e f x y z i = trace (x i) (y i) (z i)
 
@@ -27,6 +28,7 @@ list_joined f b v p xs x mine was = (λ i. was i ++ mine i) ∙ flat_map_more f 
 none_joined : (b v p : List Plain) → p ≡ [] → v ≡ b → v ++ p ≡ b
 none_joined b v p none was = (λ i. was i ++ none i) ∙ append-nil b
 
+-- one more pass of a seat that only pushes is joined, and one of a seat that only pops
 pub pushes_more : {X : Type 0} (pushed : X → List Plain) (b v w p : Trace) (xs : List X) (x : X)
     → p.shares ≡ 1 → p.popped ≡ [] → p.pushed ≡ pushed x → JoinsPushes pushed xs b v
     → w ≡ trace (v.shares + p.shares) (v.pushed ++ p.pushed) (v.popped ++ p.popped) → JoinsPushes pushed (xs ++ x ∷ []) b w

@@ -1,4 +1,4 @@
--- The rings, after a step at one of them: for `DelivererSeat::hand` and `place_rings`.
+-- The ends of the rings that push, as they were and after a step at one of them, and what was sent. What `place_rings` takes out is in `RingsAreDrained`.
 use Rattle.std.proofs.Common.{◌≡◌, ◌≢◌, ⊎_elim, ℕ, ◌<◌, List, [], ◌∷◌, ◌++◌, get_or, length, set, refl, sym, ap, ◌∙◌, subst, Some}
 use Rattle.std.specs.List.{slice_get}
 use Rattle.std.proofs.Math.Seq.{map-set_same}
@@ -9,12 +9,15 @@ use Rattle.lane_core.specs.declared.job.Plain.{Plain}
 use Rattle.lane_core.specs.ReorderBuffer.{lanes_of}
 use Rattle.hub_core.specs.declared.deliverer_seat.DelivererSeat.{DelivererSeat}
 use Rattle.hub_core.specs.Rings.{AreSameEnds, PushEnd, all_sent}
-use Rattle.hub_core.proofs.ListFacts.{get_set}
+use Rattle.hub_core.specs.Traffics.{with_more}
+use Rattle.hub_core.proofs.ListsByPlace.{get_set}
 use Rattle.hub_core.proofs.ListsOfLists.{list_more_at}
 
+-- an end is the same after two steps
 pub same_ring : (a b c : PushEnd) → SameProducer a b → SameProducer b c → SameProducer a c
 same_ring a b c x y = ((y.0.0 ∙ x.0.0, y.0.1 ∙ x.0.1, y.0.2 ∙ x.0.2, y.0.3 ∙ x.0.3), y.1 ∙ x.1)
 
+-- without a step they are the same
 pub ends_same : (old new : List PushEnd) → old ≡ new → AreSameEnds old new
 ends_same old new is = (
   ap length (sym is),
@@ -38,9 +41,9 @@ sent_same rings l r t at same = map-set_same (λ (u : PushEnd). sent u) rings l 
 
 -- one more was sent to lane l
 pub sent_more : (rings : List PushEnd) (i l : ℕ) (r t : PushEnd) (x : Plain) → i ≡ l → r ≡ get_or rings i r → i < length rings → sent t ≡ sent r ++ x ∷ []
-    → all_sent (set rings i t) ≡ set (all_sent rings) l (get_or (all_sent rings) l [] ++ x ∷ [])
+    → all_sent (set rings i t) ≡ with_more l x (all_sent rings)
 sent_more rings i l r t x is at low more = list_more_at (λ (u : PushEnd). sent u) rings i r t x at low more
-    ∙ ap (λ k. set (all_sent rings) k (get_or (all_sent rings) k [] ++ x ∷ [])) is
+    ∙ ap (λ k. with_more k x (all_sent rings)) is
 
 -- a deliverer's seat has a ring for each lane
 pub rings_counted : (d : DelivererSeat) → length d.rings.items ≡ lanes_of d.deliverer

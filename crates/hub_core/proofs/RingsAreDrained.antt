@@ -1,4 +1,4 @@
--- The rings of a hub, drained one by one: for `place_rings`.
+-- The rings of a hub, drained one by one: for `place_rings`. A step at one of them is in `RingsAfterStep`.
 use Rattle.std.proofs.Common.{◌≡◌, ℕ, ◌<◌, List, [], ◌∷◌, ◌++◌, get_or, length, Some, refl, sym, ap, ◌∙◌, arith}
 use Rattle.std.specs.List.{slice_get, All, sum_by}
 use Rattle.std.proofs.lemmas.List.{get_or-map}
@@ -21,9 +21,9 @@ use Rattle.hub_core.proofs.EachIsDrained.{drains_more}
 use Rattle.hub_core.proofs.RingsAfterStep.{rings_counted}
 
 -- the end of one of the rings is still that which pairs with the lane's
-pair_of : (old now : List PushEnd) (l : ℕ) (c : PopEnd) (t : PushEnd) → AreSameEnds old now → l < length old
+pair_of_ring : (old now : List PushEnd) (l : ℕ) (c : PopEnd) (t : PushEnd) → AreSameEnds old now → l < length old
     → ((r : PushEnd) → slice_get old l ≡ Some r → IsPair r c) → slice_get now l ≡ Some t → IsPair t c
-pair_of old now l c t ends low paired is =
+pair_of_ring old now l c t ends low paired is =
     let r = get_or old l t in
     let was = slice_get-get_or old l t low in
     let p = paired r was in
@@ -32,7 +32,7 @@ pair_of old now l c t ends low paired is =
 
 -- so is that at the lane's number
 pub pair_now : (old now : List PushEnd) (s : LaneSeat) (t : PushEnd) → IsPairedIn old s → AreSameEnds old now → t ≡ get_or now (lane_of s) t → IsPair t s.ring
-pair_now old now s t paired ends at = pair_of old now (lane_of s) s.ring t ends paired.0 paired.1
+pair_now old now s t paired ends at = pair_of_ring old now (lane_of s) s.ring t ends paired.0 paired.1
     (slice_get_read now (length now) (lane_of s) t refl (omega (arith, paired.0, ends.0)) at)
 
 -- what the lane's ring was sent
@@ -66,7 +66,7 @@ pub all_paired : (h : Hub) (rings : List PushEnd) (ss : List LaneSeat) → ArePu
     → All (IsPairedIn rings) ss
 all_paired h rings ss ends long each = All-weaker (IsLaneOf h) (IsPairedIn rings) (λ s of_hub. (
   let low = of_hub.lane in omega arith,
-  λ t e. pair_of h.rings.value.items rings (lane_of s) s.ring t ends (let less = of_hub.lane in let same = ends.0 in omega arith) of_hub.ring e,
+  λ t e. pair_of_ring h.rings.value.items rings (lane_of s) s.ring t ends (let less = of_hub.lane in let same = ends.0 in omega arith) of_hub.ring e,
 )) ss each
 
 -- there is a ring for each lane of the hub

@@ -1,10 +1,9 @@
--- Rows that are left of each lane, one of which was given: for `Feeds`.
+-- The rows that are left of each lane and those that were given, at first, as one is given, and at last: for `Feeds`. Lists that get
+-- one more: for what is brought of each lane.
 use Rattle.std.proofs.Common.{◌≡◌, ℕ, ◌<◌, ◌==◌, ◌++◌, IfSome, IsSome, Option, Some, None, is_some, option_to_list, leb, true, zero, suc, List, [], ◌∷◌, get_or, length, length-append, map, replicate, set, refl, sym, ap, ◌∙◌, arith, append-nil, append_assoc}
 use Rattle.std.proofs.lemmas.Bool.{and_parts, both_ways, leb-true, ne_eqb}
-use Rattle.std.specs.List.{list_all}
 use Rattle.std.proofs.lemmas.List.{get_or-map, length-map, length-replicate, length-set, map_push, map-set, replicate_more}
 use Rattle.std.proofs.lemmas.List.Elements.{All-from_get_or}
-use Rattle.std.proofs.lemmas.List.Folds.{list_all-map}
 use Rattle.std.proofs.lemmas.List.Sums.{list_all-from_AllPass}
 use Rattle.std.proofs.Math.Seq.{map-set_same}
 use Rattle.hub_core.specs.Feeds.{AreGiven, IsTaken, appended, are_given}
@@ -12,9 +11,10 @@ use Rattle.hub_core.specs.Serving.{are_short}
 use Rattle.hub_core.specs.Traffics.{HasRoom, with_more}
 use Rattle.hub_core.proofs.ListsOfLists.{list_more_at}
 
+-- those that were given and those that are left are the same in all, as one row goes over
 appended_more : {X : Type 0} (given old : List (List X)) (i : ℕ) (row : X) (rest : List X) → i < length old → length given ≡ length old → get_or old i []
     ≡ row ∷ rest
-    → appended (set given i (get_or given i [] ++ row ∷ [])) (set old i rest) ≡ appended given old
+    → appended (with_more i row given) (set old i rest) ≡ appended given old
 appended_more [] [] i row rest low count first = absurd (omega (arith, low))
 appended_more [] (ys ∷ old) i row rest low count first = absurd (omega (arith, count))
 appended_more (xs ∷ given) [] i row rest low count first = absurd (omega (arith, count))
@@ -23,6 +23,7 @@ appended_more (xs ∷ given) (ys ∷ old) zero row rest low count first =
 appended_more (xs ∷ given) (ys ∷ old) (suc i) row rest low count first =
     ap (λ v. (xs ++ ys) ∷ v) (appended_more given old i row rest (omega (arith, low)) (omega (arith, count)) first)
 
+-- its lane had a ticket left for it: no lane has more than 4,294,967,295 rows (`are_short`)
 short_room : (given old : List (List (List ℕ))) (i : ℕ) (row : List ℕ) (rest : List (List ℕ)) → i < length old → length given ≡ length old → get_or old i []
     ≡ row ∷ rest
     → are_short (appended given old) ≡ true → length (get_or given i []) < 4294967295
@@ -37,34 +38,32 @@ short_room (xs ∷ given) (ys ∷ old) (suc i) row rest low count first short =
     short_room given old i row rest (omega (arith, low)) (omega (arith, count)) first s.1
 
 -- the row that was taken was the first of those that were left
-pub taken : {V : Type 0} (f : V → List (List ℕ)) (vs : List V) (i lane : ℕ) (v w : V) (o : Option (List ℕ)) → i ≡ lane → i < length vs → v ≡ get_or vs i v → f v
+pub row_taken : {V : Type 0} (f : V → List (List ℕ)) (vs : List V) (i lane : ℕ) (v w : V) (o : Option (List ℕ)) → i ≡ lane → i < length vs → v ≡ get_or vs i v → f v
     ≡ option_to_list o ++ f w
     → IfSome o (λ row. IsTaken (map f vs) lane row (map f (set vs i w)))
-taken f vs i lane v w None is low at next = tt
-taken f vs i lane v w (Some row) is low at next = (
+row_taken f vs i lane v w None is low at next = tt
+row_taken f vs i lane v w (Some row) is low at next = (
   f w,
   omega (arith, low, is, length-map vs f),
   ap (λ k. get_or (map f vs) k []) (sym is) ∙ (get_or-map f vs i v [] low ∙ (ap f (sym at) ∙ next)),
   map-set f vs i w ∙ ap (λ k. set (map f vs) k (f w)) is,
 )
 
-pub untaken : {V : Type 0} (f : V → List (List ℕ)) (vs : List V) (i : ℕ) (v w : V) (o : Option (List ℕ)) → v ≡ get_or vs i v → f v ≡ option_to_list o ++ f w
+-- no row was taken, and nothing has changed
+pub row_untaken : {V : Type 0} (f : V → List (List ℕ)) (vs : List V) (i : ℕ) (v w : V) (o : Option (List ℕ)) → v ≡ get_or vs i v → f v ≡ option_to_list o ++ f w
     → o ≡ None → map f (set vs i w) ≡ map f vs
-untaken f vs i v w o at next none = map-set_same f vs i w v (sym (next ∙ ap (λ r. option_to_list r ++ f w) none) ∙ ap f at)
+row_untaken f vs i v w o at next none = map-set_same f vs i w v (sym (next ∙ ap (λ r. option_to_list r ++ f w) none) ∙ ap f at)
 
 -- nothing is left where no row was there to be taken
-pub no_more : (o : Option (List ℕ)) (n : ℕ) (rows : List (List ℕ)) → (0 < n → IsSome o) → n ≡ length rows → o ≡ None → rows ≡ []
-no_more o n [] some long none = refl
-no_more o n (row ∷ rows) some long none = absurd (both_ways (is_some o) (ap is_some none) (some (omega (arith, long))))
+pub none_to_take : (o : Option (List ℕ)) (n : ℕ) (rows : List (List ℕ)) → (0 < n → IsSome o) → n ≡ length rows → o ≡ None → rows ≡ []
+none_to_take o n [] some long none = refl
+none_to_take o n (row ∷ rows) some long none = absurd (both_ways (is_some o) (ap is_some none) (some (omega (arith, long))))
 
+-- a lane of which nothing is left, by its place
 pub left_none : {V : Type 0} (f : V → List (List ℕ)) (vs : List V) (i lane : ℕ) (v : V) → i ≡ lane → lane < length (map f vs) → v ≡ get_or vs i v → f v ≡ []
     → get_or (map f vs) lane [] ≡ []
 left_none f vs i lane v is low at none =
     ap (λ k. get_or (map f vs) k []) (sym is) ∙ (get_or-map f vs i v [] (omega (arith, low, is, length-map vs f)) ∙ (ap f (sym at) ∙ none))
-
-pub given_by : {V : Type 0} (f : V → List (List ℕ)) (n : V → ℕ) (vs : List V) → ((v : V) → length (f v) ≡ n v)
-    → list_all (λ v. n v == 0) vs ≡ are_given (map f vs)
-given_by f n vs same = sym (list_all-map (λ rest. length rest == 0) f vs ∙ (λ i. list_all (λ v. same v i == 0) vs))
 
 -- one more row was given
 pub one_given : (feeds given old new : List (List (List ℕ))) (lane : ℕ) (row : List ℕ) → IsTaken old lane row new → AreGiven feeds given old
@@ -82,13 +81,14 @@ one_given feeds given old new lane row taken was =
       record { count = count; all = all; short = was.short },
     )
 
+-- nothing was given and all is left
 none_appended : {X : Type 0} (rests : List (List X)) (n : ℕ) → length rests ≡ n → appended (replicate n []) rests ≡ rests
 none_appended [] zero count = refl
 none_appended [] (suc n) count = absurd (omega (arith, count))
 none_appended (ys ∷ rests) zero count = absurd (omega (arith, count))
 none_appended (ys ∷ rests) (suc n) count = ap (λ v. ys ∷ v) (none_appended rests n (omega (arith, count)))
 
--- the list of this lane has one more
+-- the list of this lane has one more: `list_more_at`, by the lane's number and what was brought
 pub list_more : {V X : Type 0} (f : V → List X) (vs : List V) (i lane : ℕ) (v w : V) (x : X) (brought : List (List X)) → i ≡ lane → lane < length brought → v
     ≡ get_or vs i v → f w ≡ f v ++ x ∷ []
     → map f vs ≡ brought → map f (set vs i w) ≡ with_more lane x brought
@@ -116,6 +116,7 @@ none_given feeds rests n is count short = record {
   short = short;
 }
 
+-- all was given and nothing is left
 all_appended : (given rests : List (List (List ℕ))) → length given ≡ length rests → are_given rests ≡ true → appended given rests ≡ given
 all_appended [] rests count are = refl
 all_appended (xs ∷ given) [] count are = absurd (omega (arith, count))
@@ -129,8 +130,6 @@ all_appended (xs ∷ given) ((y ∷ ys) ∷ rests) count are =
 -- all were given
 pub all_given : (feeds given rests : List (List (List ℕ))) → AreGiven feeds given rests → are_given rests ≡ true → given ≡ feeds
 all_given feeds given rests was are = sym (all_appended given rests was.count are) ∙ was.all
-
--- ---- where none is taken
 
 -- where none is left of any lane, all were given
 pub all_left : (rests : List (List (List ℕ))) → ((l : ℕ) → l < length rests → get_or rests l [] ≡ []) → are_given rests ≡ true

@@ -9,11 +9,11 @@ pub rows_long : (l n : ℕ) (year : Terms) (rows : List (List ℕ)) → length (
 rows_long l n year [] = refl
 rows_long l n year (row ∷ rows) = omega (arith, rows_long l (n + 1) year rows)
 
-pub row_at : (l n k m : ℕ) (year : Terms) (rows : List (List ℕ)) → m ≡ n + k → k < length rows → slice_get (numbered_rows l n year rows) k
+pub numbered_row_at : (l n k m : ℕ) (year : Terms) (rows : List (List ℕ)) → m ≡ n + k → k < length rows → slice_get (numbered_rows l n year rows) k
     ≡ Some (plain_of l m year (get_or rows k []))
-row_at l n k m year [] is low = absurd (omega arith)
-row_at l n zero m year (row ∷ rows) is low = ap (λ j. Some (plain_of l j year row)) (let e : n ≡ m = omega arith in e)
-row_at l n (suc k) m year (row ∷ rows) is low = row_at l (n + 1) k m year rows (omega arith) (omega arith)
+numbered_row_at l n k m year [] is low = absurd (omega arith)
+numbered_row_at l n zero m year (row ∷ rows) is low = ap (λ j. Some (plain_of l j year row)) (let e : n ≡ m = omega arith in e)
+numbered_row_at l n (suc k) m year (row ∷ rows) is low = numbered_row_at l (n + 1) k m year rows (omega arith) (omega arith)
 
 pub rows_append : (l n : ℕ) (year : Terms) (xs ys : List (List ℕ)) → numbered_rows l n year (xs ++ ys) ≡ numbered_rows l n year xs
     ++ numbered_rows l (n + length xs) year ys
@@ -33,12 +33,12 @@ feed_at l (suc i) m year (rows ∷ feeds) is = feed_at (l + 1) i m year feeds (o
 
 -- the laws
 pub deliveries_by_place : DeliveriesByPlace
-deliveries_by_place lane year rows k = (rows_long lane 0 year rows, λ low. row_at lane 0 k k year rows (omega arith) low)
+deliveries_by_place lane year rows k = (rows_long lane 0 year rows, λ low. numbered_row_at lane 0 k k year rows (omega arith) low)
 
 pub served_by_place : ServedByPlace
 served_by_place year feeds i k =
     let at = feed_at 0 i i year feeds (omega arith) in (
       feeds_long 0 year feeds,
       ap length at ∙ rows_long i 0 year (get_or feeds i []),
-      λ low. ap (λ xs. slice_get xs k) at ∙ row_at i 0 k k year (get_or feeds i []) (omega arith) low,
+      λ low. ap (λ xs. slice_get xs k) at ∙ numbered_row_at i 0 k k year (get_or feeds i []) (omega arith) low,
     )

@@ -1,8 +1,9 @@
 -- The seats of a new hub, one by one: for `make_lanes` and `make_workers`.
-use Rattle.std.proofs.Common.{◌≡◌, ℕ, ◌+◌, ◌-◌, suc, List, [], ◌∷◌, ◌++◌, length, length-append, sym, ap, ◌∙◌, subst, arith}
+use Rattle.std.proofs.Common.{◌≡◌, ℕ, ◌+◌, ◌-◌, List, [], ◌∷◌, ◌++◌, length, length-append, sym, ap, ◌∙◌, subst, arith}
 use Rattle.std.specs.List.{slice_get, All, range_with_len}
 use Rattle.std.proofs.lemmas.List.Elements.{All-push}
-use Rattle.std.proofs.lemmas.List.{map-append}
+use Rattle.std.proofs.lemmas.List.{map-append, map-id}
+use Rattle.std.proofs.lemmas.List.FromFn.{map-range_with_len_more}
 use Rattle.rtrb.specs.Ring.{IsPair}
 use Rattle.hub_core.specs.declared.lane_seat.LaneSeat.{LaneSeat}
 use Rattle.hub_core.specs.declared.rule.Trace.{Trace}
@@ -10,9 +11,10 @@ use Rattle.hub_core.specs.inner.Fresh.{IsPairedIn}
 use Rattle.hub_core.specs.Lanes.{numbers_of}
 use Rattle.hub_core.specs.Rings.{PushEnd}
 use Rattle.hub_core.specs.Rule.{trace}
-use Rattle.hub_core.proofs.ListFacts.{get_below, get_last, range_snoc}
+use Rattle.hub_core.proofs.ListsByPlace.{get_below, get_last}
 use Rattle.hub_core.proofs.PassesAreJoined.{trace_is}
 
+-- one more lane, with its ring
 pub paired_more : (rings : List PushEnd) (ss : List LaneSeat) (r : PushEnd) (s : LaneSeat)
     → All (IsPairedIn rings) ss → s.lane ≡ length rings → IsPair r s.ring → All (IsPairedIn (rings ++ r ∷ [])) (ss ++ s ∷ [])
 paired_more rings ss r s paired at pair =
@@ -27,9 +29,10 @@ pub cut_more : (b v : Trace) (i : ℕ) → v ≡ trace (b.shares - i) b.pushed b
 cut_more b v i is = trace_is _ _ _ _ _ _ (let e = ap (λ (h : Trace). h.shares) is in omega arith) (ap (λ (h : Trace). h.pushed) is)
     (ap (λ (h : Trace). h.popped) is)
 
-pub lanes_more : (ss ts : List LaneSeat) (s : LaneSeat) (i : ℕ) → numbers_of ss ≡ range_with_len 0 i → ts ≡ ss ++ s ∷ [] → s.lane ≡ i → numbers_of ts
+-- one number more
+pub seat_numbers_more : (ss ts : List LaneSeat) (s : LaneSeat) (i : ℕ) → numbers_of ss ≡ range_with_len 0 i → ts ≡ ss ++ s ∷ [] → s.lane ≡ i → numbers_of ts
     ≡ range_with_len 0 (i + 1)
-lanes_more ss ts s i was is at =
+seat_numbers_more ss ts s i was is at =
     ap numbers_of is ∙ (map-append (λ (u : LaneSeat). u.lane) ss (s ∷ [])
-    ∙ ((λ j. was j ++ at j ∷ []) ∙ (let e : i ≡ 0 + i = omega arith in let f : suc i ≡ i + 1 =
-    omega arith in ap (λ k. range_with_len 0 i ++ k ∷ []) e ∙ (sym (range_snoc 0 i) ∙ ap (range_with_len 0) f))))
+    ∙ ((λ j. was j ++ at j ∷ []) ∙ (ap (λ ks. ks ++ i ∷ []) (sym (map-id (range_with_len 0 i)))
+    ∙ (sym (map-range_with_len_more (λ k. k) 0 i i (omega arith)) ∙ map-id (range_with_len 0 (i + 1))))))

@@ -1,4 +1,4 @@
--- The seats of a hub that serves a traffic, one of which has taken a step: for `submit_some` and `bring_all`.
+-- The seats of a hub that serves a traffic: one of them takes a step (`submit_some`, `bring_all`), or all have polled all (`wait_for_more`).
 use Rattle.std.proofs.Common.{◌≡◌, ◌≢◌, ⊎_elim, ℕ, ◌<◌, ◌≤◌, ◌+◌, ◌++◌, List, [], ◌∷◌, suc, IfSome, Option, Some, None, get_or, length, length-append, map, set, refl, sym, ap, ◌∙◌, append-nil, subst, arith}
 use Rattle.std.specs.List.{range_with_len}
 use Rattle.std.proofs.Math.Seq.{map-set_same}
@@ -23,6 +23,7 @@ use Rattle.hub_core.proofs.LanesAreCounted.{lanes_counted}
 use Rattle.hub_core.proofs.ListsOfLists.{list_more_at}
 use Rattle.element_core.specs.Terms.{Terms}
 
+-- of no row anything is so
 pub if_none : (o : Option (ℕ × List ℕ)) (P : (ℕ × List ℕ) → Type 0) → o ≡ None → IfSome o P
 if_none o P none = subst (λ x. IfSome x P) (sym none) tt
 
@@ -58,6 +59,7 @@ serves_with C h seats others d e w held new start was now serves lanes of_hub ca
   came = came;
 }
 
+-- the seats are those of all lanes still, after a step at one of them
 pub step_serves : (h : Hub) (seats : List LaneSeat) (held new : Option (ℕ × List ℕ)) (i : ℕ) (s t : LaneSeat)
     → s ≡ get_or seats i s → lane_of t ≡ lane_of s → IsLaneOf h t → AreOwnSeats h seats held
     → IfSome new (λ r. HasRoom r.0 (map submitted_rows (set seats i t))) → AreOwnSeats h (set seats i t) new
@@ -68,6 +70,7 @@ step_serves h seats held new i s t at lane is was room = record {
   room = room;
 }
 
+-- what a step at one seat leaves as it was, and the row that it may add
 step_same : {X : Type 0} (f : LaneSeat → X) (seats : List LaneSeat) (i : ℕ) (s t : LaneSeat) → s ≡ get_or seats i s → f t ≡ f s → map f (set seats i t)
     ≡ map f seats
 step_same f seats i s t at same = map-set_same f seats i t s (same ∙ ap f at)
@@ -75,12 +78,17 @@ step_same f seats i s t at same = map-set_same f seats i t s (same ∙ ap f at)
 rows_same : (s t : LaneSeat) → submitted t ≡ submitted s → submitted_rows t ≡ submitted_rows s
 rows_same s t same = ap (λ (xs : List Plain). map (λ (x : Plain). x.widths) xs) same
 
-rows_more : (s t : LaneSeat) (l n : ℕ) (y : Terms) (row : List ℕ) → submitted t ≡ submitted s ++ plain_of l n y row ∷ [] → submitted_rows t ≡ submitted_rows s ++ row ∷ []
-rows_more s t l n y row more = ap (λ (xs : List Plain). map (λ (x : Plain). x.widths) xs) more
+submitted_one_more : (s t : LaneSeat) (l n : ℕ) (y : Terms) (row : List ℕ) → submitted t ≡ submitted s ++ plain_of l n y row ∷ [] → submitted_rows t ≡ submitted_rows s ++ row ∷ []
+submitted_one_more s t l n y row more = ap (λ (xs : List Plain). map (λ (x : Plain). x.widths) xs) more
     ∙ map-append (λ (x : Plain). x.widths) (submitted s) (plain_of l n y row ∷ [])
 
 polled_same : (s t : LaneSeat) → lane_of t ≡ lane_of s → received t ≡ received s → polled t ≡ polled s
 polled_same s t lane same = ap (λ l. kept l 0 (received t)) lane ∙ ap (λ xs. kept (lane_of s) 0 xs) same
+
+-- what the lanes were given is the same
+pub rows_same_given : (seats : List LaneSeat) (held : Option (ℕ × List ℕ)) (i : ℕ) (s t : LaneSeat) → s ≡ get_or seats i s → submitted t ≡ submitted s
+    → given_to seats held ≡ given_to (set seats i t) held
+rows_same_given seats held i s t at same = ap (with_held held) (sym (step_same submitted_rows seats i s t at (rows_same s t same)))
 
 -- a row was submitted that was in hand
 pub came_more : (C : List (List (List ℕ)) → List (List Plain) → Type 0) (seats : List LaneSeat) (new : Option (ℕ × List ℕ)) (i lane : ℕ) (s t : LaneSeat)
@@ -91,7 +99,7 @@ pub came_more : (C : List (List (List ℕ)) → List (List Plain) → Type 0) (s
 came_more C seats new i lane s t l n y row none is low at same more sees was =
     let rows : with_more lane row (map submitted_rows seats) ≡ given_to (set seats i t) new =
     ap (λ k. with_more k row (map submitted_rows seats)) (sym is)
-    ∙ (sym (list_more_at submitted_rows seats i s t row at low (rows_more s t l n y row more))
+    ∙ (sym (list_more_at submitted_rows seats i s t row at low (submitted_one_more s t l n y row more))
     ∙ ap (λ o. with_held o (map submitted_rows (set seats i t))) (sym none)) in
     let polls : map polled seats ≡ polled_by_each (set seats i t) = sym (step_same polled seats i s t at (polled_same s t same sees)) in
     subst (λ v. C v (polled_by_each (set seats i t))) rows (subst (λ v. C (with_more lane row (map submitted_rows seats)) v) polls was)
@@ -101,11 +109,11 @@ pub came_same : (C : List (List (List ℕ)) → List (List Plain) → Type 0) (s
     → s ≡ get_or seats i s → submitted t ≡ submitted s → polled t ≡ polled s
     → C (with_held new (map submitted_rows seats)) (map polled seats) → C (given_to (set seats i t) new) (polled_by_each (set seats i t))
 came_same C seats new i s t at same sees was =
-    let rows : with_held new (map submitted_rows seats) ≡ given_to (set seats i t) new =
-    ap (with_held new) (sym (step_same submitted_rows seats i s t at (rows_same s t same))) in
+    let rows = rows_same_given seats new i s t at same in
     let polls : map polled seats ≡ polled_by_each (set seats i t) = sym (step_same polled seats i s t at sees) in
     subst (λ v. C v (polled_by_each (set seats i t))) rows (subst (λ v. C (with_held new (map submitted_rows seats)) v) polls was)
 
+-- nothing was submitted, since the queue was full: the row stays in hand
 pub came_full : (C : List (List (List ℕ)) → List (List Plain) → Type 0) (seats : List LaneSeat) (i lane : ℕ) (s t : LaneSeat) (row back : List ℕ)
     → s ≡ get_or seats i s → submitted t ≡ submitted s → lane_of t ≡ lane_of s → received t ≡ received s → back ≡ row
     → C (with_more lane row (map submitted_rows seats)) (map polled seats) → C (given_to (set seats i t) (Some (lane, back))) (polled_by_each (set seats i t))
@@ -119,24 +127,25 @@ pub came_brought : (C : List (List (List ℕ)) → List (List Plain) → Type 0)
     → i ≡ lane → i < length seats → s ≡ get_or seats i s → submitted t ≡ submitted s → polled t ≡ polled s ++ x ∷ []
     → C (given_to seats held) (with_more lane x (polled_by_each seats)) → C (given_to (set seats i t) held) (polled_by_each (set seats i t))
 came_brought C seats held i lane s t x is low at same more was =
-    let rows : given_to seats held ≡ given_to (set seats i t) held = ap (with_held held) (sym (step_same submitted_rows seats i s t at (rows_same s t same))) in
+    let rows = rows_same_given seats held i s t at same in
     let polls : with_more lane x (polled_by_each seats) ≡ polled_by_each (set seats i t) =
     ap (λ k. with_more k x (polled_by_each seats)) (sym is) ∙ sym (list_more_at polled seats i s t x at low more) in
     subst (λ v. C v (polled_by_each (set seats i t))) rows (subst (λ v. C (given_to seats held) v) polls was)
 
--- a row has room still where the lanes have the same rows
+-- a row's lane has a ticket left still if nothing was submitted
 pub room_same : (seats : List LaneSeat) (new : Option (ℕ × List ℕ)) (i : ℕ) (s t : LaneSeat) → s ≡ get_or seats i s → submitted t ≡ submitted s
     → IfSome new (λ r. HasRoom r.0 (map submitted_rows seats)) → IfSome new (λ r. HasRoom r.0 (map submitted_rows (set seats i t)))
 room_same seats new i s t at same room = subst (λ lists. IfSome new (λ r. HasRoom r.0 lists))
     (sym (step_same submitted_rows seats i s t at (rows_same s t same))) room
 
--- how many seats there are, and which lane has one
+-- there are as many seats as the hub has lanes
 pub seats_counted : (h : Hub) (seats : List LaneSeat) (held : Option (ℕ × List ℕ)) → AreOwnSeats h seats held → length seats ≡ (shape_of h).lanes
 seats_counted h seats held was = lanes_counted seats _ was.numbers
 
-pub lane_at : (h : Hub) (seats : List LaneSeat) (held : Option (ℕ × List ℕ)) (i : ℕ) (s : LaneSeat) → AreOwnSeats h seats held → i < length seats → s
+-- a seat stands at the place of its lane's number
+pub lane_is_place : (h : Hub) (seats : List LaneSeat) (held : Option (ℕ × List ℕ)) (i : ℕ) (s : LaneSeat) → AreOwnSeats h seats held → i < length seats → s
     ≡ get_or seats i s → i ≡ lane_of s
-lane_at h seats held i s was low at =
+lane_is_place h seats held i s was low at =
     let count = seats_counted h seats held was in
     let number : get_or (range_with_len 0 (shape_of h).lanes) i 0 ≡ 0 + i = get_or-range_with_len 0 (shape_of h).lanes i 0 (omega (arith, low, count)) in
     let there : lane_of s ≡ get_or (map lane_of seats) i 0 = ap lane_of at ∙ sym (get_or-map lane_of seats i s 0 low) in
@@ -161,12 +170,12 @@ given_at seats (Some r) i s low at =
     (cases_eq i r.0)
 
 -- what was polled is the next that its lane is owed
-pub next_of : (h : Hub) (seats : List LaneSeat) (held : Option (ℕ × List ℕ)) (i : ℕ) (s t : LaneSeat) (x : Plain)
+pub polls_next_of : (h : Hub) (seats : List LaneSeat) (held : Option (ℕ × List ℕ)) (i : ℕ) (s t : LaneSeat) (x : Plain)
     → AreOwnSeats h seats held → i < length seats → s ≡ get_or seats i s → submitted t ≡ submitted s
     → x.lane ≡ lane_of s → x.number ≡ polled_count s → polled t ≡ polled s ++ x ∷ [] → polled_count t ≤ issued_count t
     → IsNextOf x (given_to seats held) (polled_by_each seats)
-next_of h seats held i s t x was low at same lane number more room =
-    let is : i ≡ x.lane = lane_at h seats held i s was low at ∙ sym lane in
+polls_next_of h seats held i s t x was low at same lane number more room =
+    let is : i ≡ x.lane = lane_is_place h seats held i s was low at ∙ sym lane in
     let mine : get_or (polled_by_each seats) i [] ≡ polled s = get_or-map polled seats i s [] low ∙ ap polled (sym at) in
     let there : length (get_or (polled_by_each seats) x.lane []) ≡ polled_count s =
     ap (λ k. length (get_or (polled_by_each seats) k [])) (sym is) ∙ ap length mine in
@@ -189,27 +198,26 @@ even_lanes (s ∷ seats) even =
     let rest = even_lanes seats (λ k d low. even (suc k) d (omega (arith, low))) in
     (λ j. here j ∷ rest j)
 
+-- and with no row in hand that is all that they were given
 pub even_given : (seats : List LaneSeat) → HavePolledAll seats → IsAllBrought (given_to seats None) (polled_by_each seats)
 even_given seats even = even_lanes seats even
 
--- a seat of the hub, by its place
+-- the seat at a place is one of the hub
 pub seat_at : (h : Hub) (seats : List LaneSeat) (held : Option (ℕ × List ℕ)) (i : ℕ) (s : LaneSeat) → AreOwnSeats h seats held → i < length seats → s
     ≡ get_or seats i s → IsLaneOf h s
 seat_at h seats held i s was low at = subst (IsLaneOf h) (sym at) (was.lanes i s low)
 
 -- ---- a delivery that was polled and not brought
 
-pub first_more : (lists : List (List Plain)) (k : ℕ) (x : Plain) → k < length lists → AreFirstOf lists (with_more k x lists)
+-- lists are the first of what they are with one item more
+first_more : (lists : List (List Plain)) (k : ℕ) (x : Plain) → k < length lists → AreFirstOf lists (with_more k x lists)
 first_more lists k x low i = ⊎_elim
     (λ (e : i ≡ k). (x ∷ [], ap (λ n. get_or lists n [] ++ x ∷ []) e ∙ sym (get_or-set_at lists k i (get_or lists k [] ++ x ∷ []) [] e low)))
     (λ (e : i ≢ k). ([], append-nil (get_or lists i []) ∙ sym (get_or-set_other lists k i (get_or lists k [] ++ x ∷ []) [] e)))
     (cases_eq i k)
 
+-- and so what the lanes have polled, once one of them has polled one more
 pub first_polled_more : (seats : List LaneSeat) (i : ℕ) (s t : LaneSeat) (x : Plain) → i < length seats → s ≡ get_or seats i s → polled t ≡ polled s ++ x ∷ []
     → AreFirstOf (polled_by_each seats) (polled_by_each (set seats i t))
 first_polled_more seats i s t x low at more = subst (λ v. AreFirstOf (polled_by_each seats) v) (sym (list_more_at polled seats i s t x at low more))
     (first_more (polled_by_each seats) i x (omega (arith, low, length-map seats polled)))
-
-pub rows_same_given : (seats : List LaneSeat) (held : Option (ℕ × List ℕ)) (i : ℕ) (s t : LaneSeat) → s ≡ get_or seats i s → submitted t ≡ submitted s
-    → given_to seats held ≡ given_to (set seats i t) held
-rows_same_given seats held i s t at same = ap (with_held held) (sym (step_same submitted_rows seats i s t at (rows_same s t same)))

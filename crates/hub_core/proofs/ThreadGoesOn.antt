@@ -12,6 +12,7 @@ use Rattle.hub_core.specs.declared.ended.Ended.TheVariants.{BringFailed, Done, N
 use Rattle.hub_core.specs.declared.hub.Hub.{Hub}
 use Rattle.hub_core.proofs.SeatsServeTraffic.{seats_counted}
 
+-- a step after others
 pub goes_since : {T : Type 0} (Came : History T) (s t u : CallingThread T) → GoesOn Came s t → GoesOn Came t u → GoesOn Came s u
 goes_since Came s t u first then = record {
   hub = then.hub ∙ first.hub;
@@ -41,6 +42,7 @@ lost_since Came Leaves s t u hub start seats lost = record {
   lost = lost.lost;
 }
 
+-- and so it was lost by the seats that are left
 pub left_lost : {T : Type 0} (Came : History T) (Leaves : T → T → Type 0) (s t : CallingThread T) (h : Hub) (start : T) → s.hub.now ≡ h
     → s.start.value ≡ start → HasLost Came Leaves s t → AreLeftLost Came Leaves h start t.traffic.value t.lanes.items
 left_lost Came Leaves s t h start hub is lost = (
@@ -49,6 +51,7 @@ left_lost Came Leaves s t h start hub is lost = (
   subst (λ v. WasLost Came Leaves v t.traffic.value t.lanes.items t.held) (lost.keeps.start ∙ is) lost.lost,
 )
 
+-- `IfLost` of what follows
 pub if_lost : {W B : Type 0} (e : Ended W B) (P Q : Type 0) → (P → Q) → IfLost e P → IfLost e Q
 if_lost (BringFailed fault) P Q f p = f p
 if_lost Done P Q f p = tt

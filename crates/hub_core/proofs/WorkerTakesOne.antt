@@ -10,6 +10,7 @@ pub record Took (takes posts : Trace) (x : Plain) : Type 0 where
   pub takes_only : takes.pushed ≡ []
   pub none_lost : takes.popped ≡ posts.pushed ++ x ∷ []
 
+-- x was in the hand before, or came out of the queue: as `stands_again` and `stands_popped` of DeliveriesAreAccounted
 pub took_held : (v w posts : Trace) (held : Option Plain) (x y : Plain) → v.shares ≡ 1 → v.pushed ≡ [] → v.popped ≡ posts.pushed ++ option_to_list held
     → held ≡ Some x → w ≡ v → y ≡ x → Took w posts y
 took_held v w posts held x y share only lost is same what = record {

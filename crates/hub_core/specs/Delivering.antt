@@ -1,4 +1,4 @@
--- The deliverer's seat: what it has collected, what is in its hand, and what it has handed to each lane.
+-- The deliverer's seat: what it has collected, what is in its hand, and what it has handed to each lane; how `collect` and `hand` change that.
 use Rattle.std.specs.Prelude.{◌≡◌, ◌≢◌, ◌⊎◌, ◌&&◌, ℕ, Bool, not, true, false, List, [], ◌∷◌, ◌++◌, Option, Some, None, option_to_list, MatchOption, length, slice_get, slice_index_or}
 use Rattle.lane_core.specs.declared.job.Plain.{Plain}
 use Rattle.lane_core.specs.ReorderBuffer.{ReorderBuffer, GivesNext, TakesIn, has_next, is_new, lanes_of}
@@ -19,7 +19,7 @@ collected s = popped_by s.collects
 abbrev pub in_hand : DelivererSeat → Option Plain
 in_hand s = s.held
 
--- the same as a list
+-- `in_hand` as a list
 abbrev pub hand_of : DelivererSeat → List Plain
 hand_of s = option_to_list s.held
 
@@ -34,7 +34,7 @@ lane_count s = lanes_of (buffer_of s)
 abbrev pub all_handed : DelivererSeat → List (List Plain)
 all_handed s = all_sent s.rings.items
 
--- what lane l was handed
+-- what lane l was handed: its list of `all_handed`
 abbrev pub handed : DelivererSeat → ℕ → List Plain
 handed s l = slice_index_or (all_sent s.rings.items) l []
 
@@ -46,7 +46,7 @@ taken_in s = sifted (lane_count s) (collected s)
 abbrev pub next_is_there : DelivererSeat → ℕ → Bool
 next_is_there s l = is_among l (length (handed s l)) (collected s) && not (is_among l (length (handed s l)) (hand_of s))
 
--- each lane was handed the same
+-- each lane was handed in t what it was handed in s
 abbrev pub SameHanded : DelivererSeat → DelivererSeat → Type 0
 SameHanded s t = (l : ℕ) → handed t l ≡ handed s l
 

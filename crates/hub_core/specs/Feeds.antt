@@ -10,7 +10,7 @@ use Rattle.hub_core.specs.declared.feeds.Feeds.{Feeds}
 abbrev pub rests_of : Feeds → List (List (List ℕ))
 rests_of f = map (λ rest. into_iter_items rest) f.rests.items
 
--- whether no row is left
+-- whether no row is left: the rows that were given are in `AreGiven`
 abbrev pub are_given : List (List (List ℕ)) → Bool
 are_given rests = list_all (λ rest. length rest == 0) rests
 
@@ -18,7 +18,7 @@ are_given rests = list_all (λ rest. length rest == 0) rests
 abbrev pub IsTaken : List (List (List ℕ)) → ℕ → List ℕ → List (List (List ℕ)) → Type 0
 IsTaken old lane row new = (rest : List (List ℕ)) × (lane < length old) × (slice_index_or old lane [] ≡ row ∷ rest) × (new ≡ slice_set old lane rest)
 
--- the lists of each lane one after the other
+-- each list of the first, followed by the list of its place in the second
 abbrev pub appended : {X : Type 0} → List (List X) → List (List X) → List (List X)
 appended [] rests = []
 appended (xs ∷ given) [] = []
@@ -30,11 +30,11 @@ pub record AreGiven (feeds given rests : List (List (List ℕ))) : Type 0 where
   pub all : appended given rests ≡ feeds
   pub short : are_short feeds ≡ true
 
--- whatever feeds had these rows left, of which others were given, after this row of a lane they have those left
+-- the row r.1 of lane r.0 is given: feeds that had the rows `old` left have the rows `new` left, and the lane had a ticket for it
 abbrev pub GivesRow : ℕ × List ℕ → List (List (List ℕ)) → List (List (List ℕ)) → Type 0
 GivesRow r old new = (feeds given : List (List (List ℕ))) → AreGiven feeds given old → HasRoom r.0 given × AreGiven feeds (with_more r.0 r.1 given) new
 
--- a row was taken, with its lane, or none and nothing has changed
+-- a row was taken, with its lane, or none and nothing has changed; `given` follows from `some`, and is what callers use
 pub record TakesRow (old : List (List (List ℕ))) (row : Option (ℕ × List ℕ)) (new : List (List (List ℕ))) : Type 0 where
   pub some : IfSome row (λ r. IsTaken old r.0 r.1 new)
   pub given : IfSome row (λ r. GivesRow r old new)

@@ -1,3 +1,4 @@
+-- Definitions, a file for each subject. `Answers` of scan_core says what the laws mean by `Reads`; `inner` is for the inside of the crate.
 pub use Rattle.scan_core.specs.Answers
 pub mod Collecting
 pub mod Delivering

@@ -1,4 +1,4 @@
--- The parts of a hub as a state of the machine.
+-- The parts of a hub as a state of the machine of lane_core.
 use Rattle.std.specs.Prelude.{◌≡◌, ℕ, List, ◌++◌, All, true, Some, length, map, slice_get}
 use Rattle.std.specs.List.{flat_map}
 use Rattle.lane_core.specs.Machine.{State, lane_state}
@@ -6,7 +6,7 @@ use Rattle.lane_core.specs.Weights.{OneForOne}
 use Rattle.lane_core.specs.Whereabouts.{EachOnce}
 use Rattle.hub_core.specs.Lanes.{lane_of, polled, polled_count, received, submitted}
 use Rattle.hub_core.specs.Hubs.{shape_of, year_of}
-use Rattle.hub_core.specs.Workers.{job_in_hand, posted, taken}
+use Rattle.hub_core.specs.Workers.{delivery_in_hand, posted, taken}
 use Rattle.hub_core.specs.Delivering.{collected, buffer_of, hand_of, handed, taken_in}
 use Rattle.hub_core.specs.declared.hub.Hub.{Hub}
 use Rattle.hub_core.specs.declared.lane_seat.LaneSeat.{LaneSeat}
@@ -20,7 +20,7 @@ pub record StandsFor (s : State) (h : Hub) (ls : List LaneSeat) (ws : List Worke
   pub lanes : (i : ℕ) (v : LaneSeat) → slice_get ls i ≡ Some v → slice_get s.lanes (lane_of v)
       ≡ Some (lane_state (submitted v) true (polled_count v) (length (handed d (lane_of v))))
   pub jobs : OneForOne (flat_map submitted ls) (flat_map taken ws) s.jobs
-  pub workers : s.workers ≡ map job_in_hand ws
+  pub workers : s.workers ≡ map delivery_in_hand ws
   pub results : OneForOne (flat_map posted ws) (collected d) s.results
   pub waiting : s.waiting ≡ (buffer_of d).waiting ++ hand_of d
 

@@ -10,7 +10,7 @@ use Rattle.hub_core.specs.declared.ended.Ended.TheVariants.{BringFailed, Done, N
 abbrev pub with_more : {X : Type 0} → ℕ → X → List (List X) → List (List X)
 with_more i x lists = slice_set lists i (slice_index_or lists i [] ++ x ∷ [])
 
--- the lane of this place is there, and has a ticket left
+-- the lane of this place is there, and has a ticket left of the 4,294,967,295 that `shape_for` gives it
 abbrev pub HasRoom : ℕ → List (List (List ℕ)) → Type 0
 HasRoom i given = (i < length given) × (length (slice_index_or given i []) < 4294967295)
 
@@ -34,11 +34,11 @@ History T = T → T → List (List (List ℕ)) → List (List Plain) → Type 0
 abbrev pub IsLed : {T : Type 0} → History T → T → Type 0
 IsLed {T} came s = (start : T) × (given : List (List (List ℕ))) × (brought : List (List Plain)) × came start s given brought
 
--- in one of them this is a lane's next delivery
+-- by some history that has led to this state, this is its lane's next delivery
 abbrev pub Awaits : {T : Type 0} → History T → Plain → T → Type 0
 Awaits {T} came x s = (start : T) × (given : List (List (List ℕ))) × (brought : List (List Plain)) × came start s given brought × IsNextOf x given brought
 
--- in one of them all that was given has come back
+-- by some history that has led to this state, all that was given has come back
 abbrev pub IsOwedNothing : {T : Type 0} → History T → T → Type 0
 IsOwedNothing {T} came s = (start : T) × (given : List (List (List ℕ))) × (brought : List (List Plain)) × came start s given brought × IsAllBrought given brought
 
@@ -46,7 +46,7 @@ IsOwedNothing {T} came s = (start : T) × (given : List (List (List ℕ))) × (b
 abbrev pub Stays : {T : Type 0} → History T → T → T → Type 0
 Stays {T} came s t = (start : T) (given : List (List (List ℕ))) (brought : List (List Plain)) → came start s given brought → came start t given brought
 
--- and so does whatever led to the first, if all that was given has come back
+-- whatever led to the first state leads to the second, if all that was given has come back
 abbrev pub StaysOwedNothing : {T : Type 0} → History T → T → T → Type 0
 StaysOwedNothing {T} came s t = (start : T) (given : List (List (List ℕ))) (brought : List (List Plain)) → came start s given brought → IsAllBrought given brought
     → came start t given brought
@@ -61,7 +61,9 @@ abbrev pub Brings : {T : Type 0} → History T → Plain → T → T → Type 0
 Brings {T} came x s t = (start : T) (given : List (List (List ℕ))) (brought : List (List Plain)) → came start s given brought → IsNextOf x given brought
     → came start t given (with_more x.lane x brought)
 
--- the traffic was brought all that it was to be brought
+-- ---- how it was served
+
+-- no delivery was lost: `IfLost` has the other case
 abbrev pub IsKept : {W B : Type 0} → Ended W B → Type 0
 IsKept (BringFailed fault) = ⊥
 IsKept Done = ⊤

@@ -15,11 +15,13 @@ use std::mem;
 use std::snapshot::Snapshot;
 use std::sync::Wait;
 
-/// How many rows are submitted before deliveries are collected, and the other way round. No claim rests on this number
-/// or the next: `bench/serve` shows what they cost.
+/// How many rows at most are submitted before deliveries are collected, and how many deliveries at most before rows
+/// are submitted. No claim rests on this number or the next: `bench/serve` shows what they cost. docs/ARCHITECTURE.md
+/// tells both.
 const IN_A_TURN: u32 = 32;
 
-/// How many deliveries are collected if the calling thread has slept: all that were posted meanwhile.
+/// How many deliveries at most are collected if the calling thread has slept: all that were posted while it slept,
+/// since the queue holds no more (`CAPACITY` in traffic_serving.rt).
 const AFTER_A_SLEEP: u32 = 64;
 
 /// What a turn leaves to do.
@@ -40,13 +42,13 @@ pub(crate) struct CallingThread<'a, T> {
     /// By lane.
     pub(crate) lanes: Vec<LaneSeat>,
     pub(crate) deliverer: DelivererSeat,
-    /// A worker's seat that has no thread.
+    /// A worker's seat without a thread, if the traffic lets the calling thread read rows.
     pub(crate) own: Option<WorkerSeat>,
     /// In a box, since a large one that is moved from result to result takes the compiler minutes.
     pub(crate) traffic: Box<T>,
     /// The traffic as it was at first. It has no bytes.
     pub(crate) start: Snapshot<T>,
-    /// The row in hand, and its lane.
+    /// The row in hand, for which the queue of jobs had no room, and its lane.
     pub(crate) held: Option<(u8, Runs)>,
     pub(crate) pace: Pace<'a>,
 }
@@ -55,7 +57,7 @@ impl<'a, T: Traffic> CallingThread<'a, T> {
     ghost use Rattle.std.specs.Prelude.{◌≡◌, Ok, false, true};
     ghost use Rattle.hub_core.specs.inner.CallingThread.{GoesOn, HasAllBack, EndsServing, IsAtEnd, IsServing, TakesStep};
 
-    /// Submits the next rows, first the one in hand. False if there were fewer, or no room.
+    /// Submits the next `IN_A_TURN` rows, first the one in hand. False if there were fewer, or no room for one.
     fn submit_some<R: Wait>(&mut self, rt: &R) -> bool
         requires { IsServing T.Came self.old }
         ensures { GoesOn T.Came self.old self.new }
@@ -75,6 +77,7 @@ impl<'a, T: Traffic> CallingThread<'a, T> {
                     self.held = Some((lane, row));
                     return false;
                 }
+                // A traffic gives rows only of lanes that have a ticket left.
                 Err(SubmitFault::Spent(_)) => unreachable!(),
             }
         }
@@ -87,9 +90,12 @@ impl<'a, T: Traffic> CallingThread<'a, T> {
         ensures { TakesStep T.Came T.Leaves self.old result self.new }
     {
         let index = usize::from(lane);
+        // What was set aside as a stranger may name a lane that is not there.
         if index >= self.lanes.len() {
             return Ok(());
         }
+        // The loop ends when `hand` has nothing, and no claim rests on its bound. With a low bound a delivery would be
+        // left, and what is served in `tests/commands` would not end.
         for _i in 0..u64::MAX {
             if self.deliverer.hand(lane) == Handed::Nothing {
                 break;
@@ -118,8 +124,8 @@ impl<'a, T: Traffic> CallingThread<'a, T> {
         Ok(collected)
     }
 
-    /// Reads a row with its own seat if it is idle, and posts at all times the delivery that the seat holds. Whether
-    /// a delivery was posted.
+    /// Works with its own seat, if it has one: it posts the delivery that the seat holds, or, if the seat holds none
+    /// and the thread is idle, reads a row and posts its delivery. Whether a delivery was posted.
     fn read_row<R: Wait>(&mut self, rt: &R, is_idle: bool) -> bool
         requires { IsServing T.Came self.old }
         ensures { GoesOn T.Came self.old self.new }
@@ -132,13 +138,13 @@ impl<'a, T: Traffic> CallingThread<'a, T> {
         }
         let has_posted = self.hub.work(rt, seat, &OpenGate) == Worked::Posted;
         if has_posted {
-            // The workers need not be told of it.
+            // The workers need not be told of the row that was read here.
             self.pace.unannounced = self.pace.unannounced.saturating_sub(1);
         }
         has_posted
     }
 
-    /// Whether no row is in hand, and each that was submitted has come back.
+    /// Whether nothing that was given is still on its way.
     fn has_all_back(&self) -> bool
         ensures { result ≡ true → HasAllBack self.now }
     {
@@ -153,13 +159,14 @@ impl<'a, T: Traffic> CallingThread<'a, T> {
         under_way > ROWS_A_WORKER
     }
 
-    /// Collects and submits. If there is neither to do it reads a row, and if there is none it waits for a
-    /// delivery.
+    /// Collects and submits. If no more can be collected or submitted now, it reads a row and posts its
+    /// delivery. If it has posted none, it waits for a delivery, unless all has come back.
     fn take_turn<R: Wait>(&mut self, rt: &R) -> Result<Turn, T::BringFault>
         requires { IsServing T.Came self.old }
         ensures step { TakesStep T.Came T.Leaves self.old result self.new }
         ensures back { result ≡ Ok Turn.AllBack → HasAllBack self.new }
     {
+        // Read before it collects, so that it does not sleep through what is posted meanwhile.
         let seen = self.pace.signals.deliveries.given();
         let has_slept = mem::replace(&mut self.pace.has_slept, false);
         let collected = self.collect_some(rt, if has_slept { AFTER_A_SLEEP } else { IN_A_TURN })?;

@@ -1,9 +1,8 @@
-//! Takes all that no lane has polled out of the hands, queues and rings of a hub.
-ghost use Rattle.std.specs.Prelude.{◌≡◌, ◌++◌, ℕ, All, option_to_list};
-ghost use Rattle.std.specs.List.{flat_map, sum_by};
+//! Takes all that no lane has polled out of a hub: out of its rings, what waits, the hands and the queues.
+ghost use Rattle.std.specs.Prelude.{◌≡◌, ◌++◌, All, option_to_list};
+ghost use Rattle.std.specs.List.{flat_map};
 ghost use Rattle.crossbeam_queue.specs.Passes.{IsPassOf};
 ghost use Rattle.rtrb.specs.Ring.{sent, received, IsPair, SameProducer};
-ghost use Rattle.lane_core.specs.declared.job.Plain.{Plain};
 ghost use Rattle.lane_core.specs.Weights.{OneForOne};
 ghost use Rattle.hub_core.specs.inner.DrainedLists.{AreTheSame, Drains, DrainsInto};
 ghost use Rattle.hub_core.specs.inner.Fresh.{IsPairedIn};
@@ -12,7 +11,7 @@ ghost use Rattle.hub_core.specs.Lanes.{submitted};
 ghost use Rattle.hub_core.specs.Passes.{shares_of, popped_by, pushed_by};
 ghost use Rattle.hub_core.specs.inner.Draining.{AreFromFirst, AreLeftInRings, DrainsAll};
 ghost use Rattle.hub_core.specs.inner.Rule.{HasShares, TakesPops, TakesPushes};
-ghost use Rattle.hub_core.specs.inner.Workers.{jobs_in_hand};
+ghost use Rattle.hub_core.specs.inner.Workers.{deliveries_in_hand};
 ghost use Rattle.hub_core.specs.Workers.{posted, taken};
 
 use crate::closed_lane::ClosedLane;
@@ -28,7 +27,7 @@ use rtrb::{Consumer, Producer};
 use std::sync::Wait;
 
 /// Places a delivery, if there is one.
-pub(crate) fn place_any(lists: &mut Vec<Vec<Delivery>>, held: Option<Delivery>)
+fn place_any(lists: &mut Vec<Vec<Delivery>>, held: Option<Delivery>)
     ensures { DrainsInto lists.old.items lists.new.items (option_to_list held) }
 {
     if let Some(delivery) = held {
@@ -37,7 +36,7 @@ pub(crate) fn place_any(lists: &mut Vec<Vec<Delivery>>, held: Option<Delivery>)
 }
 
 /// Joins the workers' passes, and places what is in their hands.
-pub(crate) fn place_hands(
+fn place_hands(
     hub: &Hub,
     all_jobs: &mut Pass<Job, Trace>,
     all_results: &mut Pass<Delivery, Trace>,
@@ -48,7 +47,7 @@ pub(crate) fn place_hands(
     requires workers { All (IsWorkerOf hub.now) workers.items }
     ensures jobs { TakesPops hub.now.jobs taken workers.items all_jobs.old all_jobs.new }
     ensures results { TakesPushes hub.now.results posted workers.items all_results.old all_results.new }
-    ensures drains { DrainsInto lists.old.items lists.new.items (flat_map jobs_in_hand workers.items) }
+    ensures drains { DrainsInto lists.old.items lists.new.items (flat_map deliveries_in_hand workers.items) }
 {
     for seat in workers {
         let WorkerSeat { takes, posts, held } = seat;
@@ -58,8 +57,9 @@ pub(crate) fn place_hands(
     }
 }
 
-/// Drains a queue.
-pub(crate) fn place_queue<T: Queued, R: Wait>(
+/// Drains a queue by the pass that has all its shares (1,024: `IsOneForOne` in specs/), and so knows at the end that
+/// nothing is left.
+fn place_queue<T: Queued, R: Wait>(
     rt: &R,
     queue: &Queue<T>,
     all: &mut Pass<T, Trace>,
@@ -77,7 +77,7 @@ pub(crate) fn place_queue<T: Queued, R: Wait>(
 }
 
 /// Takes out what waits.
-pub(crate) fn place_waiting(deliverer: &mut Deliverer, lists: &mut Vec<Vec<Delivery>>)
+fn place_waiting(deliverer: &mut Deliverer, lists: &mut Vec<Vec<Delivery>>)
     ensures drains { Drains lists.old.items lists.new.items (AreTheSame deliverer.old.waiting) }
 {
     while let Some(delivery) = deliverer.take_any() {
@@ -102,7 +102,7 @@ fn place_rest(
 }
 
 /// Joins the lanes' passes, and places what is left in their rings.
-pub(crate) fn place_rings(
+fn place_rings(
     hub: &Hub,
     all_jobs: &mut Pass<Job, Trace>,
     rings: &mut Vec<Producer<Delivery>>,
@@ -124,6 +124,7 @@ pub(crate) fn place_rings(
         } = closed.seat;
         let mut ring = ring;
         let count = rings.len();
+        // For the index below.
         prove!((lane as usize) < count);
         hub.jobs.absorb::<Share>(all_jobs, pass);
         place_rest(&mut rings[lane as usize], &mut ring, lists);
@@ -132,9 +133,8 @@ pub(crate) fn place_rings(
 
 /// Takes all that no lane has polled out of the hub's parts, into the lists.
 ///
-/// A lane's numbers in its ring are below those that wait, and these and what is under way below those
-/// in the queue of jobs; so in this order only what is in hands and in the queue of results can come
-/// out of turn.
+/// Of a lane's numbers that are left, those in its ring are the lowest, and those in the queue of jobs the highest. So
+/// in this order of the calls the lists come as nearly in order as `Hub::settle` says.
 pub(crate) fn drain_all<R: Wait>(
     rt: &R,
     hub: &Hub,

@@ -1,4 +1,5 @@
-//! Rows that are left of each lane.
+//! Rows that are left of each lane, and are taken of the lanes in turn. The turns are for fairness: no claim rests on
+//! the order among lanes.
 ghost use Rattle.std.specs.Prelude.{◌≡◌, ◌==◌};
 ghost use Rattle.std.specs.List.{list_all};
 ghost use Rattle.std.specs.Vec.Iter.{into_iter_len};
@@ -13,11 +14,11 @@ use std::vec::IntoIter;
 #[derive(Drop)]
 pub struct Feeds {
     pub(crate) rests: Vec<IntoIter<Runs>>,
-    // The lane whose turn it is.
+    /// The lane whose turn it is.
     turn: u8,
 }
 
-/// Whether no row is left.
+/// Whether none of these has a row left.
 fn are_empty(rests: &[IntoIter<Runs>]) -> bool
     ensures { result ≡ list_all (λ rest. into_iter_len rest == 0) rests.now }
 {
@@ -75,7 +76,7 @@ impl Feeds {
         None
     }
 
-    /// The next row, and its lane. Of up to 16 lanes that have rows each has its turn.
+    /// The next row, and its lane. Of up to `MOST_SEATS` lanes that have rows each has its turn.
     pub fn take(&mut self) -> Option<(u8, Runs)>
         ensures row { TakesRow (rests_of self.old) result (rests_of self.new) }
         ensures left { result ≡ None → length (rests_of self.old) ≤ 16 → are_given (rests_of self.old) ≡ true }
@@ -87,7 +88,7 @@ impl Feeds {
     }
 }
 
-/// A law: of feeds of which none is too long no row was given at first, and all were once none is left.
+/// A law: of feeds of which none is too long, no row was given at first, and all were given once none is left.
 pub fn feeds_are_given()
     ensures first { GivenAtFirst }
     ensures last { GivenAtLast }

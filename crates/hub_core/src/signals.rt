@@ -1,13 +1,14 @@
-//! How a thread that finds nothing to do sleeps, and how another wakes it: for `pace.rt` and `worker_threads.rt`.
+//! How a thread that finds nothing to do sleeps, how another wakes it, and how workers are asked to stop.
 //!
-//! No claim rests on it, so no proof notices a lost wake. It costs a second, which `bench/serve` shows.
+//! No claim rests on it, so no proof notices a lost wake. A lost wake costs `REST` of pace.rt: the time limit of
+//! tests/commands/lanes_test.py notices it, and `bench/serve` shows what wakes cost.
 
 use std::hint;
 use std::sync::Wait;
 use std::sync::atomic::{AtomicBool, AtomicU64, Ordering};
 use std::time::Duration;
 
-/// A thread sleeps while the low 32 bits of a word are what they were.
+/// How many values 32 bits have: `park_timeout` compares the low 32 bits of a word.
 const WORDS: u64 = 4_294_967_296;
 
 /// How often a signal was given, and how many threads sleep until it is given again.
@@ -34,7 +35,7 @@ impl Signal {
         self.given.load(Ordering::SeqCst)
     }
 
-    /// Whether it is given once more while a thread looks this many times.
+    /// Whether it was given more than `seen` times, at one of this many looks.
     pub(crate) fn is_given(&self, seen: u64, looks: u32) -> bool {
         for _ in 0..looks {
             if self.given() != seen {
@@ -45,8 +46,11 @@ impl Signal {
         false
     }
 
-    /// Waits while it was given so often: it looks this many times, and then sleeps for this many microseconds
-    /// at most. Whether it slept.
+    /// Waits until it is given more than `seen` times: it looks this many times, and then sleeps for `nap`
+    /// microseconds at most. False if one of the looks found it given, so that it did not sleep.
+    ///
+    /// It counts as a sleeper before the word is compared, and `give` changes the word before it reads that count. So
+    /// no signal falls between the two.
     pub(crate) fn wait<R: Wait>(&self, rt: &R, seen: u64, looks: u32, nap: u64) -> bool {
         if self.is_given(seen, looks) {
             return false;
@@ -78,14 +82,16 @@ impl Signal {
 /// one each finds the worker that was awake last, whose thread a processor runs sooner than one that slept long.
 #[derive(Drop)]
 pub(crate) struct JobsSignal {
+    /// The one of the worker that asked first.
     first: Signal,
+    /// The one that all other workers share.
     others: Signal,
     /// How many workers have asked for their signal.
     workers: AtomicU64,
 }
 
 impl JobsSignal {
-    /// A signal that was not given.
+    /// Not given yet, and no worker has asked for its signal.
     fn new() -> JobsSignal {
         JobsSignal {
             first: Signal::new(),
@@ -103,7 +109,7 @@ impl JobsSignal {
         }
     }
 
-    /// Gives it, and wakes a worker if as many as `least` sleep. How many slept.
+    /// Gives it, and wakes a worker if at least `least` sleep. How many slept.
     pub(crate) fn notify_one(&self, least: u64) -> u64 {
         let first = self.first.give();
         let asleep = first.saturating_add(self.others.give());
@@ -129,7 +135,7 @@ pub struct Signals {
     pub(crate) jobs: JobsSignal,
     /// To the workers with a delivery in hand: there are places for deliveries.
     pub(crate) places: Signal,
-    /// To the calling thread: there are deliveries, or no jobs.
+    /// To the calling thread: there are deliveries.
     pub(crate) deliveries: Signal,
     /// To the workers: they are to stop.
     pub(crate) stop: AtomicBool,
@@ -147,7 +153,8 @@ impl Signals {
     }
 
     /// Tells the workers that rows were submitted and that there is room for deliveries: one that found no
-    /// job is woken, and all that found no place. A worker that was not told looks again within a second.
+    /// job is woken, and all that found no place. A worker that was not told looks again within a second (`REST` in
+    /// pace.rt).
     pub fn notify_workers(&self) {
         self.jobs.notify_one(1);
         self.places.notify_all();

@@ -33,10 +33,12 @@ use std::snapshot::Snapshot;
 use std::sync::Wait;
 use std::thread::Threads;
 
-/// What each queue and each ring holds. `shape_for` in specs/ has the same number.
+/// What each queue and each ring holds. `shape_for` in specs/ has the same number, and so has `PLACES` in
+/// bench/c/hub.c, the hub in C to compare it with. `AFTER_A_SLEEP` and `WAKE_FOR` are chosen for it.
+/// `bench/serve` shows what another number costs.
 const CAPACITY: u16 = 64;
 
-/// A hub whose queues and rings hold 64, with as many tickets a lane as there are.
+/// A hub whose queues and rings hold `CAPACITY`, and whose lanes have all tickets that there are.
 fn new_hub<R: Wait>(
     rt: &R,
     alloc: Global,
@@ -73,7 +75,7 @@ fn close_all(seats: Vec<LaneSeat>, room: Vec<ClosedLane>) -> Vec<ClosedLane>
     closed
 }
 
-/// Takes a seat from the workers', if one is asked for.
+/// Takes a seat from the workers', if one is asked for. Only the contract reads the hub, here and in `put_back`.
 fn take_own(hub: &Hub, workers: &mut Vec<WorkerSeat>, has_own: bool) -> Option<WorkerSeat>
     requires { AreWorkers hub.now workers.old None }
     ensures { AreWorkers hub.now workers.new result }
@@ -82,7 +84,7 @@ fn take_own(hub: &Hub, workers: &mut Vec<WorkerSeat>, has_own: bool) -> Option<W
     if has_own { workers.pop() } else { None }
 }
 
-/// Puts it back, if there is one.
+/// Puts the seat that `take_own` has taken back, if it has taken one.
 fn put_back(hub: &Hub, workers: &mut Vec<WorkerSeat>, own: Option<WorkerSeat>)
     requires { AreWorkers hub.now workers.old own }
     ensures { AreWorkers hub.now workers.new None }
@@ -95,14 +97,15 @@ fn put_back(hub: &Hub, workers: &mut Vec<WorkerSeat>, own: Option<WorkerSeat>)
 
 /// The seats of a hub, of which the calling thread may have a worker's: `Parts` without the hub.
 #[derive(Drop)]
-pub(crate) struct Seats {
-    pub(crate) lanes: Vec<LaneSeat>,
-    pub(crate) workers: Vec<WorkerSeat>,
-    pub(crate) deliverer: DelivererSeat,
-    pub(crate) own: Option<WorkerSeat>,
+struct Seats {
+    lanes: Vec<LaneSeat>,
+    workers: Vec<WorkerSeat>,
+    deliverer: DelivererSeat,
+    own: Option<WorkerSeat>,
 }
 
-/// What the calling thread leaves: the `Seats` that it had, and the traffic.
+/// What the calling thread leaves: the traffic, and the `Seats` without those that have threads, which `run_workers`
+/// gives back.
 #[derive(Drop)]
 struct Left<T> {
     lanes: Vec<LaneSeat>,
@@ -111,7 +114,7 @@ struct Left<T> {
     traffic: Box<T>,
 }
 
-/// Serves the traffic beside the workers.
+/// Runs the workers, and the calling thread's loop beside them, which serves the traffic.
 fn serve_seats<'e, R: Threads + Wait + Sync, G: Gate + Sync, T: Traffic + Drop>(
     rt: &'e R,
     alloc: Global,
@@ -201,8 +204,7 @@ fn finish_all<R: Wait>(rt: &R, alloc: Global, hub: Hub, seats: Seats, room: Vec<
 /// brings their deliveries, and this many workers read them beside each other, each row once the gate has
 /// let its ticket pass. A row that the calling thread reads, if the traffic lets it, passes no gate.
 ///
-/// `NoThread` says that a thread could not be started, `NoMemory` that the hub or its threads were refused
-/// memory: the traffic has given nothing then, and is given back as it was.
+/// If it is refused (`NotBegun` says why), the traffic has given nothing, and is given back as it was.
 pub fn serve_traffic<R: Threads + Wait + Sync, G: Gate + Sync, T: Traffic + Drop>(
     rt: &R,
     alloc: Global,
@@ -216,9 +218,11 @@ pub fn serve_traffic<R: Threads + Wait + Sync, G: Gate + Sync, T: Traffic + Drop
     requires fresh { T.Came traffic traffic (replicate lanes []) (replicate lanes []) }
     ensures served { IfOk result (λ v. IsKept v.1 → IsServed T.Came T.has_ended year traffic v.0 v.1) }
     ensures lost { IfOk result (λ v. IfLost v.1 (IsServedUpTo T.Came T.Leaves year traffic v.0)) }
+    // These two clauses are the two fields of `GivesBack`, which `run_workers` names.
     ensures refused { IfErr result (λ e. e.fault ≢ ServeFault.BadCount) }
     ensures untouched { IfErr result (λ e. e.input ≡ traffic) }
 {
+    // The seat with which the calling thread reads counts as a worker's, so beside the most workers it has none.
     let has_own = traffic.lets_caller_read() && workers < MOST_SEATS;
     let Ok(room) = Vec::with_capacity(alloc, usize::from(lanes)) else {
         return Err(NotBegun::new(ServeFault::NoMemory, traffic));
@@ -232,7 +236,7 @@ pub fn serve_traffic<R: Threads + Wait + Sync, G: Gate + Sync, T: Traffic + Drop
         Ok(parts) => parts,
         Err(fault) => return Err(NotBegun::new(fault, traffic)),
     };
-    // In a box, since a large one that is moved from result to result takes the compiler minutes.
+    // In a box, as `CallingThread` has it.
     let traffic = match Box::new(alloc, traffic) {
         Ok(traffic) => traffic,
         Err(refused) => return Err(NotBegun::new(ServeFault::NoMemory, refused.value)),

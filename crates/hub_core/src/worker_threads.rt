@@ -17,7 +17,7 @@ use std::sync::atomic::Ordering;
 use std::thread;
 use std::thread::{Promise, PromisedHandle, Scope, Threads};
 
-/// A worker's seat comes back as one of this hub.
+/// The promise that a worker's seat comes back as one of this hub.
 #[derive(Clone, Copy)]
 struct OfHub<'a>(&'a Hub);
 
@@ -27,8 +27,8 @@ impl<'a> Promise<WorkerSeat> for OfHub<'a> {
     ghost kept_by = { λ p r. IsWorkerOf p.0.now r };
 }
 
-/// Works until it is asked to stop and then finds nothing to do. It tells the calling thread of several deliveries
-/// at once, and of fewer before it rests.
+/// Works until it is asked to stop and then finds no job, or no place for its delivery. It tells the calling thread
+/// of `NOTIFIED_TOGETHER` deliveries at once, and of fewer before it rests.
 fn run_worker<R: Wait, G: Gate>(
     rt: &R,
     hub: &Hub,
@@ -43,6 +43,7 @@ fn run_worker<R: Wait, G: Gate>(
     let mut unannounced: u32 = 0;
     let jobs_signal = signals.jobs.of_next_worker();
     for _ in rt.forever() {
+        // Read before it looks for work, so that it does not sleep through what is given meanwhile.
         let jobs = jobs_signal.given();
         let places = signals.places.given();
         let is_last = signals.stop.load(Ordering::SeqCst);
@@ -118,11 +119,11 @@ fn start_all<'s, 'e: 's, R: Threads + Wait + Sync, G: Gate + Sync>(
 
 /// Runs the workers, each on a thread of its own, beside a task of the calling thread, which is handed its
 /// input. Once the task has ended they are asked to stop, and each stops when it then finds no job or no
-/// place for its answer.
+/// place for its delivery.
 ///
-/// All threads have ended when it returns, and the seats come back in a list of the same capacity. `NoThread`
-/// says that a thread could not be started, `NoMemory` that memory was refused: the task has not begun then,
-/// and its input is given back as it was; the task and the seats are dropped.
+/// All threads have ended when it returns, and the seats come back in a list of the same capacity. If it is refused
+/// (`NotBegun` says why), the task has not begun, and its input is given back as it was; the task and the seats are
+/// dropped.
 pub fn run_workers<
     'e,
     R: Threads + Wait + Sync,

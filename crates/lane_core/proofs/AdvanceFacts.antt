@@ -1,4 +1,5 @@
 -- What there is of a number that becomes its lane's next: for `slot_of` and `take_next`.
+-- `es` and `ks` are the entries and known tickets of later numbers before the number becomes the next, `fs` and `ts` those after.
 use Rattle.std.proofs.Common.{◌≡◌, ℕ, ◌<◌, ◌^◌, ◌==◌, ◌&&◌, ◌||◌, Bool, true, false, List, [], Some, None, refl, sym, ap, ◌∙◌, arith}
 use Rattle.std.specs.List.{list_any}
 use Rattle.std.specs.Map.{lookup, remove_entry, values_of}
@@ -24,6 +25,7 @@ none_later l k es ks indexed none = record {
   gone = λ small. ap (is_known l k) none;
 }
 
+-- where lane l's number k was known and now is the lane's next, the tickets are known as they were
 come_there : (l k m n : ℕ) (ks ts : List Ticket) → is_known l k ks ≡ true → (((l == m) && (k == n)) ≡ false → is_known m n ts ≡ is_known m n ks)
     → (b : Bool) → ((l == m) && (k == n)) ≡ b → ((((l == m) && (k == n)) && true) || is_known m n ts) ≡ is_known m n ks
 come_there l k m n ks ts there other true is =
@@ -31,6 +33,7 @@ come_there l k m n ks ts there other true is =
     ap (λ b. (b && true) || is_known m n ts) is ∙ (sym there ∙ (λ i. is_known (eqb-true l m p.0 i) (eqb-true k n p.1 i) ks))
 come_there l k m n ks ts there other false is = ap (λ b. (b && true) || is_known m n ts) is ∙ other is
 
+-- the test finds lane l's number k, which was known, and is taken off the known tickets; `&& true` says that the number has come (`has_come`)
 module _ (test : Ticket → Bool) (l k : ℕ) (finds : Finds test l k) (es : List (Ticket × Plain)) (ks : List Ticket) (indexed : AreIndexed es ks)
     (there : list_any test ks ≡ true) (gone : list_any test (remove_key test ks) ≡ false) where
   was : is_known l k ks ≡ true

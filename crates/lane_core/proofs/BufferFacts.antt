@@ -1,4 +1,6 @@
 -- How a deliverer's buffer changes with what the deliverer keeps: for each call of `Deliverer`.
+-- `nexts`, `hs`, `es` and `ks` are a deliverer's fields: next numbers, slots, entries of later numbers, known tickets. `fs` and `ts` are `es` and `ks`
+-- after the call, and `a` is a slot's new content. The clause `known` of a call looks at lane l, whose slot changed, and at the others apart.
 use Rattle.std.proofs.Common.{◌≡◌, ◌≢◌, ℕ, ◌+◌, ◌<◌, ◌^◌, ◌==◌, ◌&&◌, ◌||◌, not, nat_lt, Bool, true, false, List, [], ◌∷◌, ◌++◌, length, replicate, set, get_or, zero, suc, ⊎_elim, refl, sym, ap, ◌∙◌, subst, arith}
 use Rattle.std.specs.Map.{values_of}
 use Rattle.std.proofs.lemmas.Grind.{get_or-set_at}
@@ -24,6 +26,7 @@ use Rattle.lane_core.proofs.TruthFacts.{or_three_parts, below_next, or_of_three_
 abbrev took_in : List ℕ → List NextSlot → List Ticket → ℕ → ℕ → Bool
 took_in nexts hs ks l k = nat_lt k (get_or nexts l 0) || ((get_or nexts l 0 == k) && has_come (slot_at hs l)) || is_known l k ks
 
+-- of the tickets that have come from lane b on, none is of an earlier lane
 none_below : (b : ℕ) (ns : List ℕ) (hs : List NextSlot) (m k : ℕ) → m < b → is_known m k (come_tickets b ns hs) ≡ false
 none_below b [] hs m k less = refl
 none_below b (n ∷ ns) [] m k less = refl
@@ -31,7 +34,7 @@ none_below b (n ∷ ns) (Missing ∷ hs) m k less = none_below (suc b) ns hs m k
 none_below b (n ∷ ns) (Here x ∷ hs) m k less = (λ i. (ne_eqb b m (λ e. absurd (omega arith)) i && (n == k)) || none_below (suc b) ns hs m k (omega arith) i)
 none_below b (n ∷ ns) (Out ∷ hs) m k less = (λ i. (ne_eqb b m (λ e. absurd (omega arith)) i && (n == k)) || none_below (suc b) ns hs m k (omega arith) i)
 
--- of the first lane, where no later one has the ticket
+-- the ticket is of the first lane, b, and no later one has it: only c is left to say whether it has come
 this_lane : (b m : ℕ) (c rest : Bool) → m ≡ b → rest ≡ false → (((b == m) && c) || rest) ≡ (c && true)
 this_lane b m c rest at none = (λ i. ((same i && c) || none i)) ∙ last_false c
   where
@@ -41,6 +44,7 @@ this_lane b m c rest at none = (λ i. ((same i && c) || none i)) ∙ last_false 
     last_false : (d : Bool) → ((true && d) || false) ≡ (d && true)
     last_false d = or-false d ∙ sym (and-true d)
 
+-- lane m's number k has come if it is the lane's next and the lane's slot says so; the lists begin with lane b
 come_at : (b j m k : ℕ) (ns : List ℕ) (hs : List NextSlot) → length hs ≡ length ns → m ≡ b + j
     → is_known m k (come_tickets b ns hs) ≡ ((get_or ns j 0 == k) && has_come (slot_at hs j))
 come_at b j m k [] [] long at = sym (and-false (0 == k))
@@ -59,6 +63,7 @@ come_at b (suc j) m k (n ∷ ns) (Out ∷ hs) long at =
     ap (λ c. (c && (n == k)) || is_known m k (come_tickets (suc b) ns hs)) (ne_eqb b m (λ e. absurd (omega arith)))
     ∙ come_at (suc b) j m k ns hs (omega arith) (omega arith)
 
+-- what the buffer says of a ticket is what the parts of a deliverer say
 pub was_is : (nexts : List ℕ) (hs : List NextSlot) (es : List (Ticket × Plain)) (ks : List Ticket) → length hs ≡ length nexts → (l k : ℕ)
     → was_taken (buffer_by_slots nexts hs es ks) l k ≡ took_in nexts hs ks l k
 was_is nexts hs es ks long l k =
@@ -67,17 +72,19 @@ was_is nexts hs es ks long l k =
     ap (λ b. nat_lt k (get_or nexts l 0) || b) (more ∙ ap (λ b. b || is_known l k ks) (come_at 0 l l k nexts hs long (omega arith)))
     ∙ sym (or_assoc (nat_lt k (get_or nexts l 0)) ((get_or nexts l 0 == k) && has_come (slot_at hs l)) (is_known l k ks))
 
+-- what waits in slots and what waits as later numbers
 sum_both : (h : Plain → ℕ) (hs : List NextSlot) (es : List (Ticket × Plain)) → sum_by h (waiting_at hs ++ values_of es)
     ≡ sum_by h (waiting_at hs) + sum_by h (values_of es)
 sum_both h hs es = sum_by-append h (waiting_at hs) (values_of es)
 
+-- std's `get_or-set_at` and `get_or-set_other`, of slots
 slot_set : (hs : List NextSlot) (l : ℕ) (a : NextSlot) → l < length hs → slot_at (set hs l a) l ≡ a
 slot_set hs l a low = get_or-set_at hs l l a Missing refl low
 
 slot_other : (hs : List NextSlot) (l m : ℕ) (a : NextSlot) → m ≢ l → slot_at (set hs l a) m ≡ slot_at hs m
 slot_other hs l m a other = get_or-set_other hs l m a Missing other
 
--- lane l's slot is another, of the same number
+-- lane l's slot has something else of the same number: `AreKept` still holds
 pub kept_set : (nexts : List ℕ) (hs : List NextSlot) (es : List (Ticket × Plain)) (ks : List Ticket) (l : ℕ) (a : NextSlot)
     → AreKept nexts hs es ks → l < length nexts → IsSlotOf l (get_or nexts l 0) a → AreKept nexts (set hs l a) es ks
 kept_set nexts hs es ks l a kept low own = record {
@@ -91,6 +98,7 @@ kept_set nexts hs es ks l a kept low own = record {
   apart = kept.apart;
 }
 
+-- a number that has not come does not wait
 none_come : (a : NextSlot) → has_come a ≡ false → (h : Plain → ℕ) → sum_by h (waiting_of a) ≡ 0
 none_come Missing e h = refl
 none_come (Here x) e h = absurd (cc)
@@ -160,6 +168,7 @@ took_later nexts hs es fs ks ts x long low fresh more known = record {
       ∙ ap (λ b. b || is_ticket_of l k x) (sym (was_is nexts hs es ks long l k))));
 }
 
+-- a later number was taken in: `AreKept` still holds
 pub kept_later : (nexts : List ℕ) (hs : List NextSlot) (es fs : List (Ticket × Plain)) (ks ts : List Ticket) (x : Plain)
     → AreKept nexts hs es ks → x.number ≢ get_or nexts x.lane 0 → MoreBy es x fs → are_tied fs ≡ true
     → ((l k : ℕ) → is_known l k ts ≡ (is_known l k ks || is_ticket_of l k x))
@@ -224,7 +233,7 @@ gave nexts hs es fs ks ts l x a low lanes here own weight same others =
       };
     }
 
--- and it is kept as it should be
+-- lane l was given its next number: `AreKept` still holds
 pub kept_next : (nexts : List ℕ) (hs : List NextSlot) (es fs : List (Ticket × Plain)) (ks ts : List Ticket) (l : ℕ) (a : NextSlot)
     → AreKept nexts hs es ks → l < length nexts → IsSlotOf l (get_or nexts l 0 + 1) a → AreIndexed fs ts
     → (get_or nexts l 0 + 1 < 2 ^ 32 → is_known l (get_or nexts l 0 + 1) ts ≡ false)
@@ -256,7 +265,7 @@ kept_next nexts hs es fs ks ts l a kept low own indexed gone others =
           (cases_eq m l);
     }
 
--- the number after it is known as much as it was
+-- what `Advances` says of known tickets (`same`): of lane l's own, and of another lane's
 pub known_same : (l n : ℕ) (es fs : List (Ticket × Plain)) (ks ts : List Ticket) (a : NextSlot) → Advances l n es ks fs ts a
     → (k : ℕ) → (((n == k) && has_come a) || is_known l k ts) ≡ is_known l k ks
 known_same l n es fs ks ts a moved k = ap (λ b. ((b && (n == k)) && has_come a) || is_known l k ts) (sym (eq-eqb l l refl)) ∙ moved.same l k
@@ -281,7 +290,7 @@ took_out nexts hs es fs ks t x is = record {
   };
 }
 
--- and one that waited as its lane's next number
+-- a delivery that waited as its lane's next number was taken out of turn
 pub took_slot : (nexts : List ℕ) (hs : List NextSlot) (es : List (Ticket × Plain)) (ks : List Ticket) (l : ℕ) (x : Plain) → length hs ≡ length nexts
     → l < length hs → slot_at hs l ≡ Here x
     → GivesAny (buffer_by_slots nexts hs es ks) x (buffer_by_slots nexts (set hs l Out) es ks)
@@ -304,7 +313,7 @@ took_slot nexts hs es ks l x long low here = record {
   };
 }
 
--- a number that was not taken in is not known as a later one, and so none such waits
+-- a number that was not taken in is not known as a later one; and one that is not known so does not wait as one
 pub not_known : (nexts : List ℕ) (hs : List NextSlot) (es : List (Ticket × Plain)) (ks : List Ticket) (l k : ℕ) → length hs ≡ length nexts
     → was_taken (buffer_by_slots nexts hs es ks) l k ≡ false → is_known l k ks ≡ false
 not_known nexts hs es ks l k long fresh =
@@ -314,14 +323,15 @@ not_known nexts hs es ks l k long fresh =
 pub not_later : (es : List (Ticket × Plain)) (ks : List Ticket) (l k : ℕ) → AreIndexed es ks → is_known l k ks ≡ false → is_among l k (values_of es) ≡ false
 not_later es ks l k indexed none = false_from_ne_true (is_among l k (values_of es)) (λ is. let c : true ≡ false = sym (indexed.among l k is) ∙ none in cc)
 
-none_yet : (n : ℕ) → waiting_at (replicate n Missing) ≡ []
-none_yet zero = refl
-none_yet (suc n) = none_yet n
+-- in slots that are all `Missing` nothing waits, and none of their numbers has come
+none_waits_yet : (n : ℕ) → waiting_at (replicate n Missing) ≡ []
+none_waits_yet zero = refl
+none_waits_yet (suc n) = none_waits_yet n
 
 none_come_yet : (l n : ℕ) → come_tickets l (replicate n 0) (replicate n Missing) ≡ []
 none_come_yet l zero = refl
 none_come_yet l (suc n) = none_come_yet (suc l) n
 
 -- a deliverer that took nothing in
-pub new_is : (n : ℕ) → buffer_by_slots (replicate n 0) (replicate n Missing) [] [] ≡ new_buffer n
-new_is n = λ i. buffer (replicate n 0) (none_yet n i ++ []) (none_come_yet 0 n i ++ [])
+pub new_buffer_is : (n : ℕ) → buffer_by_slots (replicate n 0) (replicate n Missing) [] [] ≡ new_buffer n
+new_buffer_is n = λ i. buffer (replicate n 0) (none_waits_yet n i ++ []) (none_come_yet 0 n i ++ [])

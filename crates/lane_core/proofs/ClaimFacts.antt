@@ -1,17 +1,18 @@
--- What lanes are given of all that was found: the laws `received_first` and `claims_settle`.
-use Rattle.std.proofs.Common.{◌≡◌, ⊎_elim, ℕ, ◌+◌, ◌≤◌, ◌==◌, not, nat_lt, cond, true, suc, List, [], ◌∷◌, ◌++◌, length, Some, refl, sym, ap, arith, ◌<◌}
-use Rattle.std.specs.List.{slice_get, sum_by, count_by}
+-- What lists of lanes' numbers are, by their sums under every weight: the laws `same_lists`, `received_first` and `claims_settle`.
+use Rattle.std.proofs.Common.{◌≡◌, ⊎_elim, ℕ, ◌+◌, ◌≤◌, ◌==◌, not, nat_lt, cond, true, suc, List, [], ◌∷◌, ◌++◌, length, Some, refl, sym, ap, ◌∙◌, arith, ◌<◌}
+use Rattle.std.specs.List.{count_by, list_all, slice_get, sum_by}
 use Rattle.std.specs.Prelude.{take}
+use Rattle.std.proofs.lemmas.List.{take_all}
 use Rattle.std.proofs.lemmas.List.Sums.{sum_by-append, sum_by-cons}
 use Rattle.std.proofs.lemmas.Bool.{and_parts, cases_lt, eq-eqb, ltb-false, not-true}
 use Rattle.lane_core.specs.declared.job.Plain.{Plain}
-use Rattle.lane_core.specs.Settling.{Account, AreNumbered, Claim, EachLaneOnce, GivesDue, IsClaim, rises}
+use Rattle.lane_core.specs.Settling.{Account, Claim, ClaimsSettle, ReceivedFirst, SameLists, rises}
 use Rattle.lane_core.specs.Tickets.{numbered}
 use Rattle.lane_core.specs.Weights.{once}
 use Rattle.lane_core.proofs.SameFacts.{is_same, same_from, same_self}
 use Rattle.lane_core.proofs.TruthFacts.{true_from_once, here_or_there}
 use Rattle.lane_core.proofs.WeightFacts.{sum_rest, sum_rest_le, sum_ones, sum_picked, sum_unpicked}
-use Rattle.lane_core.proofs.TicketFacts.{sum_of_other_lane, sum_of_own_lane, numbered_parts, no_later_same, sum_of_others, sum_of_own}
+use Rattle.lane_core.proofs.TicketFacts.{no_later_same, numbered_parts, of_one_lane, sum_of_others, sum_of_own}
 
 -- the first of a rising list is least
 least : (x g : Plain) (gs : List Plain) → rises (g ∷ gs) ≡ true → 1 ≤ count_by (λ z. is_same x z) gs → g.number ≤ x.number
@@ -90,50 +91,44 @@ first_of l n (x ∷ xs) (p ∷ ps) a b less =
     let rest = first_of l (suc n) xs ps h.1 h.2 (λ g. sum_rest_le g p x ps xs h.0 (less g)) in
     λ i. sym h.0 i ∷ rest i
 
-pub received_first : (accounts : List Account) → AreNumbered accounts
-    → ((i : ℕ) (a : Account) → slice_get accounts i ≡ Some a → numbered a.lane 0 a.received ≡ true) → EachLaneOnce accounts
-    → ((h : Plain → ℕ) → sum_by (λ a. sum_by h a.received) accounts ≤ sum_by (λ a. sum_by h a.submitted) accounts)
-    → (i : ℕ) (a : Account) → slice_get accounts i ≡ Some a → take (length a.received) a.submitted ≡ a.received
+pub same_lists : SameLists
+same_lists l n xs ys a b same =
+    sym (take_all (length ys) xs (omega (arith, same (λ _. 1), sum_ones xs, sum_ones ys))) ∙ first_of l n xs ys a b (λ h. omega (arith, same h))
+
+-- of several, each with rows of its own lane, the one of the lane has the sum of all rows of the lane
+sum_of_lane : {S : Type 0} (lane : S → ℕ) (rows : S → List Plain) (ss : List S) (i : ℕ) (s : S) (h : Plain → ℕ) → slice_get ss i ≡ Some s
+    → ((j : ℕ) (u : S) → slice_get ss j ≡ Some u → list_all (λ x. x.lane == lane u) (rows u) ≡ true)
+    → count_by (λ u. lane u == lane s) ss ≤ 1
+    → sum_by (λ u. sum_by (λ x. cond (x.lane == lane s) (h x) 0) (rows u)) ss ≡ sum_by h (rows s)
+sum_of_lane lane rows ss i s h at own one =
+    sum_picked (λ u. sum_by (λ (x : Plain). cond (x.lane == lane s) (h x) 0) (rows u)) (λ u. lane u == lane s) ss i s at
+    (λ j u e no. sum_of_others (lane s) (lane u) h (rows u) (own j u e) no) one (eq-eqb (lane s) (lane s) refl)
+    ∙ sum_of_own (lane s) h (rows s) (own i s at)
+
+pub received_first : ReceivedFirst
 received_first accounts out back one less i a e =
     first_of a.lane 0 a.submitted a.received (out i a e) (back i a e) (λ h.
-    let cut : Plain → ℕ = λ x. cond (x.lane == a.lane) (h x) 0 in
-    let p = sum_picked (λ (u : Account). sum_by cut u.submitted) (λ (u : Account). u.lane == a.lane) accounts i a e
-    (λ j u e' no. sum_of_other_lane a.lane u.lane 0 h u.submitted (out j u e') no) (one a.lane) (eq-eqb a.lane a.lane refl) in
-    let q = sum_picked (λ (u : Account). sum_by cut u.received) (λ (u : Account). u.lane == a.lane) accounts i a e
-    (λ j u e' no. sum_of_other_lane a.lane u.lane 0 h u.received (back j u e') no) (one a.lane) (eq-eqb a.lane a.lane refl) in
-    omega (arith, p, q, sum_of_own_lane a.lane 0 h a.submitted (out i a e), sum_of_own_lane a.lane 0 h a.received (back i a e), less cut))
+    let p = sum_of_lane (λ (u : Account). u.lane) (λ (u : Account). u.submitted) accounts i a h e
+    (λ j u f. of_one_lane u.lane 0 u.submitted (out j u f)) (one a.lane) in
+    let q = sum_of_lane (λ (u : Account). u.lane) (λ (u : Account). u.received) accounts i a h e
+    (λ j u f. of_one_lane u.lane 0 u.received (back j u f)) (one a.lane) in
+    omega (arith, p, q, less (λ x. cond (x.lane == a.lane) (h x) 0)))
 
--- where no item passes the test, those that do have no sum
+-- where no item is the lane's, the lane's sum is 0
 none_counted : (l : ℕ) (h : Plain → ℕ) (xs : List Plain) → count_by (λ x. x.lane == l) xs ≡ 0 → sum_by (λ x. cond (x.lane == l) (h x) 0) xs ≡ 0
 none_counted l h xs e = sum_unpicked (λ (x : Plain). cond (x.lane == l) (h x) 0) (λ (x : Plain). x.lane == l) xs (λ j x at no. ap (λ b. cond b (h x) 0) no) e
 
-pub claims_settle : (claims : List Claim) (found dropped : List Plain)
-    → ((i : ℕ) (c : Claim) → slice_get claims i ≡ Some c → IsClaim c × GivesDue c dropped)
-    → ((l : ℕ) → count_by (λ c. c.lane == l) claims ≤ 1)
-    → ((h : Plain → ℕ) → sum_by (λ c. sum_by h c.submitted) claims ≡ sum_by (λ c. sum_by h c.polled) claims + sum_by h found)
-    → ((h : Plain → ℕ) → sum_by (λ c. sum_by h c.given) claims + sum_by h dropped ≡ sum_by h found)
-    → (i : ℕ) (c : Claim) → slice_get claims i ≡ Some c → c.polled ++ c.given ≡ c.submitted
+pub claims_settle : ClaimsSettle
 claims_settle claims found dropped each one all_found all_given i c at =
     let mine = each i c at in
     let sum : (h : Plain → ℕ) → sum_by h c.submitted ≡ (sum_by h c.polled + sum_by h c.given) + sum_by (λ x. cond (x.lane == c.lane) (h x) 0) dropped = λ h.
     let cut : Plain → ℕ = λ x. cond (x.lane == c.lane) (h x) 0 in
-    let p = sum_picked (λ (u : Claim). sum_by cut u.submitted) (λ (u : Claim). u.lane == c.lane) claims i c at
-    (λ j u e no. sum_of_other_lane c.lane u.lane 0 h u.submitted (each j u e).0.submitted no) (one c.lane) (eq-eqb c.lane c.lane refl) in
-    let q = sum_picked (λ (u : Claim). sum_by cut u.polled) (λ (u : Claim). u.lane == c.lane) claims i c at
-    (λ j u e no. sum_of_other_lane c.lane u.lane 0 h u.polled (each j u e).0.polled no) (one c.lane) (eq-eqb c.lane c.lane refl) in
-    let r = sum_picked (λ (u : Claim). sum_by cut u.given) (λ (u : Claim). u.lane == c.lane) claims i c at
-    (λ j u e no. sum_of_others c.lane u.lane h u.given (each j u e).0.own no) (one c.lane) (eq-eqb c.lane c.lane refl) in
-    omega (
-      arith,
-      p,
-      q,
-      r,
-      sum_of_own_lane c.lane 0 h c.submitted mine.0.submitted,
-      sum_of_own_lane c.lane 0 h c.polled mine.0.polled,
-      sum_of_own c.lane h c.given mine.0.own,
-      all_found cut,
-      all_given cut,
-    ) in
+    let p = sum_of_lane (λ (u : Claim). u.lane) (λ (u : Claim). u.submitted) claims i c h at
+    (λ j u e. of_one_lane u.lane 0 u.submitted (each j u e).0.submitted) (one c.lane) in
+    let q = sum_of_lane (λ (u : Claim). u.lane) (λ (u : Claim). u.polled) claims i c h at
+    (λ j u e. of_one_lane u.lane 0 u.polled (each j u e).0.polled) (one c.lane) in
+    let r = sum_of_lane (λ (u : Claim). u.lane) (λ (u : Claim). u.given) claims i c h at (λ j u e. (each j u e).0.own) (one c.lane) in
+    omega (arith, p, q, r, all_found cut, all_given cut) in
     let lost = count_by (λ (x : Plain). x.lane == c.lane) dropped in
     let counts = sum (λ _. 1) in
     let none : lost ≡ 0 = ⊎_elim

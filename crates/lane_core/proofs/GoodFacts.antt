@@ -1,4 +1,5 @@
 -- What holds of every state that a machine comes to (`Good`), and that each event keeps it: `StepFacts` goes through the events.
+-- `v` is lane l before an event, and `w` after it. A proof looks at lane l and at the other lanes apart.
 use Rattle.std.proofs.Common.{◌≡◌, ◌≢◌, ⊎_elim, ℕ, ◌+◌, ◌≤◌, ◌==◌, ◌&&◌, not, nat_lt, Bool, true, false, zero, suc, List, [], ◌∷◌, ◌++◌, length, length-append, set, Option, Some, None, option_to_list, refl, sym, ap, ◌∙◌, subst, arith}
 use Rattle.std.specs.List.{AllByRecursion, slice_get, sum_by}
 use Rattle.std.proofs.lemmas.List.Sums.{sum_by-append, sum_by-le-sum_by}
@@ -15,7 +16,7 @@ use Rattle.lane_core.proofs.UnderWay.{times_without, under_way_more, sum_without
 use Rattle.lane_core.proofs.TruthFacts.{once_below_next, once_le}
 use Rattle.lane_core.proofs.TicketFacts.{other_ticket, own_ticket, numbered_more}
 
--- whether the item is the one of its number among these
+-- whether x is what was looked up, if something was
 abbrev pub is_item : Plain → Option Plain → Bool
 is_item x None = false
 is_item x (Some y) = is_same x y
@@ -24,7 +25,8 @@ is_item x (Some y) = is_same x y
 abbrev pub is_own : State → Plain → Bool
 is_own s x = is_item x (slice_get (submitted_by s x.lane) x.number)
 
--- each ticket under way or handed is one that was issued, each lane's lists are in order, and what is under way was submitted
+-- each issued ticket is under way or handed, once, and no other is; a lane has polled no more than it was handed; what it has submitted is its numbers in
+-- order under the machine's year; and what is under way was submitted
 pub record Good (s : State) : Type 0 where
   pub one : (l k : ℕ) → times_under_way s l k + once (nat_lt k (handed_of s l)) ≡ once (nat_lt k (issued_of s l))
   pub few : (l : ℕ) → polled_of s l ≤ handed_of s l
@@ -44,7 +46,7 @@ moved s jobs workers results waiting same good = record {
   own = same (λ x. once (not (is_own s x))) ∙ good.own;
 }
 
--- where nothing is submitted and nothing handed
+-- where nothing is submitted and nothing handed: `sub` and `h` say of each lane that its submitted rows and its handed number stay
 pub settled : (s : State) (l : ℕ) (v w : LaneState) → slice_get s.lanes l ≡ Some v → w.submitted ≡ v.submitted → w.handed ≡ v.handed → w.polled ≤ w.handed
     → Good s
     → Good (state s.year (set s.lanes l w) s.jobs s.workers s.results s.waiting)
@@ -68,7 +70,7 @@ settled s l v w at submitted handed few good =
       own = (λ i. sum_under_way (λ x. once (not (is_item x (slice_get (sub x.lane i) x.number)))) s) ∙ good.own;
     }
 
--- where a lane was handed its next number
+-- where a lane was handed its next number: `sub` and `p` say of each lane that its submitted rows and its polled number stay
 pub given : (s : State) (l : ℕ) (v : LaneState) → slice_get s.lanes l ≡ Some v → is_among l v.handed s.waiting ≡ true → Good s
     → Good (state s.year (set s.lanes l (lane_state v.submitted v.closed v.polled (v.handed + 1))) s.jobs s.workers s.results (without l v.handed s.waiting))
 given s l v at waits good =
@@ -114,13 +116,14 @@ item_more x [] ys k = once_le (not (is_item x (slice_get ys k)))
 item_more x (y ∷ xs) ys zero = omega arith
 item_more x (y ∷ xs) ys (suc k) = item_more x xs ys k
 
+-- what was submitted last is there
 last_item : (x : Plain) (xs : List Plain) (k : ℕ) → k ≡ length xs → is_item x (slice_get (xs ++ x ∷ []) k) ≡ true
 last_item x [] zero e = same_self x
 last_item x [] (suc k) e = absurd (omega arith)
 last_item x (y ∷ xs) zero e = absurd (omega arith)
 last_item x (y ∷ xs) (suc k) e = last_item x xs k (omega arith)
 
--- where a lane submitted x
+-- where a lane submitted x: `h` and `p` say what stays of each lane, `here` and `else_` what it has submitted, `still` and `new` what is its own
 pub added : (s : State) (l : ℕ) (v : LaneState) (x : Plain) → slice_get s.lanes l ≡ Some v → x.lane ≡ l → x.number ≡ length v.submitted → x.year ≡ s.year
     → Good s
     → Good (state s.year (set s.lanes l (lane_state (v.submitted ++ x ∷ []) v.closed v.polled v.handed)) (s.jobs ++ x ∷ []) s.workers s.results s.waiting)

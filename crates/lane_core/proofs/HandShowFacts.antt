@@ -1,11 +1,12 @@
 -- A world shows the machine's next state: a lane is handed its next number (`World::hand`).
+-- From `hand_done` on `x`, `v` and `w` are as in LaneShowFacts, and `y` is the delivery that is handed.
 use Rattle.std.proofs.Common.{◌≡◌, ◌≢◌, ⊎_elim, ℕ, ◌+◌, ◌==◌, ◌&&◌, ◌||◌, not, nat_lt, cond, Bool, true, false, List, [], ◌∷◌, ◌++◌, set, get_or, Option, Some, None, refl, sym, ap, ◌∙◌, arith, map, take}
 use Rattle.std.specs.List.{slice_get, sum_by, count_by}
 use Rattle.std.specs.Option.{is_some}
 use Rattle.std.proofs.lemmas.List.Sums.{sum_by-cons}
 use Rattle.std.proofs.lemmas.List.Sorted.{sum_by-IsPermutation}
-use Rattle.std.proofs.lemmas.Bool.{cases_eq, and_left, cond-false, cond-true, eq-eqb, ne_eqb}
-use Rattle.std.proofs.Math.Bool.{or_comm, or_assoc}
+use Rattle.std.proofs.lemmas.Bool.{cases_eq, and_left, cond-false, cond-true, eq-eqb, lt-ltb, ne_eqb}
+use Rattle.std.proofs.Math.Bool.{or-false, or-true, or_comm, or_assoc}
 use Rattle.std.proofs.lemmas.List.{map-set, take_more}
 use Rattle.std.proofs.lemmas.Option.{get_or_from_slice_get, slice_get_within}
 use Rattle.lane_core.specs.declared.event.Event.TheVariants.{Hand}
@@ -23,7 +24,9 @@ use Rattle.lane_core.proofs.SameFacts.{permutation_from, same_from}
 use Rattle.lane_core.proofs.WorldShowsNext.{done, idle}
 use Rattle.lane_core.proofs.StepFacts.{reached_good}
 use Rattle.lane_core.proofs.TruthFacts.{true_from_once_not, below_next, or_false}
-use Rattle.lane_core.proofs.TicketFacts.{among_from, among_times, not_among, not_among_times, ticket_is, ticket_parts, ticket_from}
+use Rattle.lane_core.proofs.TicketFacts.{among_from, among_times, not_among, not_among_times, ticket_parts, ticket_from}
+use Rattle.lane_core.proofs.UnderWay.{times_without}
+use Rattle.lane_core.proofs.WeightFacts.{any_counted}
 use Rattle.lane_core.proofs.NextFacts.{next_has}
 
 -- the lane's next number is as many as it was handed
@@ -31,6 +34,7 @@ next_is : (c : Contents) (s : State) (l : ℕ) (v : LaneState) → ShowsState c 
 next_is c s l v shows at = ap (λ (xs : List ℕ). get_or xs l 0) shows.nexts
     ∙ get_or_from_slice_get (map (λ (u : LaneState). u.handed) s.lanes) l v.handed 0 (get_map (λ (u : LaneState). u.handed) s.lanes l v at)
 
+-- where no next number of the lane waits, the machine hands none
 none_at : (c : Contents) (s : State) (l : ℕ) (o : Option LaneState) → slice_get s.lanes l ≡ o → ShowsState c s → has_next c.buffer l ≡ false → hand s l o ≡ None
 none_at c s l None at shows none = refl
 none_at c s l (Some v) at shows none =
@@ -42,7 +46,7 @@ none_at c s l (Some v) at shows none =
 pub hand_none : (c : Contents) (l : ℕ) → has_next c.buffer l ≡ false → Steps c (Hand l) false c
 hand_none c l none = λ s r shows. idle c s (Hand l) (none_at c s l (slice_get s.lanes l) refl shows none) shows
 
--- an item that is the one of its number
+-- what was looked up, if it is x
 item_from : (x : Plain) (o : Option Plain) → is_item x o ≡ true → o ≡ Some x
 item_from x None e = absurd (cc)
 item_from x (Some y) e = let same = same_from x y e in λ i. Some (sym same i)
@@ -52,6 +56,7 @@ own_from : (s : State) (x : Plain) (l n : ℕ) → once (not (is_own s x)) ≡ 0
 own_from s x l n own lane number =
     (λ i. slice_get (submitted_by s (sym lane i)) (sym number i)) ∙ item_from x (slice_get (submitted_by s x.lane) x.number) (true_from_once_not (is_own s x) own)
 
+-- by whether the first is the lane's next number
 first_by : (b : Bool) (s : State) (l n : ℕ) (x y : Plain) (xs : List Plain) (h : Plain → ℕ) → slice_get (submitted_by s l) n ≡ Some x → once (not (is_own s y))
     ≡ 0 → is_ticket_of l n y ≡ b → (b || is_among l n xs) ≡ true
     → (is_among l n xs ≡ true → sum_by h (without l n xs) + h x ≡ sum_by h xs)
@@ -73,16 +78,17 @@ without_own s l n x (y ∷ xs) h at own any =
     let lost = sum_by-cons (λ z. once (not (is_own s z))) y xs in
     omega (arith, sum_by-cons h y xs, first_by (is_ticket_of l n y) s l n x y xs h at (omega arith) refl any (λ f. without_own s l n x xs h at (omega arith) f))
 
-among_by : (b : Bool) (l n m k : ℕ) (y : Plain) (xs : List Plain) → is_ticket_of l n y ≡ b → (b || is_among l n xs) ≡ true
-    → (is_among l n xs ≡ true → is_among m k xs ≡ (is_among m k (without l n xs) || ((l == m) && (n == k))))
-    → (is_ticket_of m k y || is_among m k xs) ≡ (is_among m k (cond b xs (y ∷ without l n xs)) || ((l == m) && (n == k)))
-among_by true l n m k y xs is any rest = ap (λ b. b || is_among m k xs) (ticket_is l n m k y is) ∙ or_comm ((l == m) && (n == k)) (is_among m k xs)
-among_by false l n m k y xs is any rest = ap (λ b. is_ticket_of m k y || b) (rest any)
-    ∙ sym (or_assoc (is_ticket_of m k y) (is_among m k (without l n xs)) ((l == m) && (n == k)))
-
+-- what is among all that waits is among the rest, or is the lane's next number: `times_without`, of the test
 among_without : (l n m k : ℕ) (xs : List Plain) → is_among l n xs ≡ true → is_among m k xs ≡ (is_among m k (without l n xs) || ((l == m) && (n == k)))
-among_without l n m k [] any = absurd (cc)
-among_without l n m k (y ∷ xs) any = among_by (is_ticket_of l n y) l n m k y xs refl any (λ f. among_without l n m k xs f)
+among_without l n m k xs any =
+    any_counted (is_ticket_of m k) xs
+    ∙ (ap (nat_lt 0) (sym (times_without l n m k xs any))
+    ∙ (above_none (count_by (is_ticket_of m k) (without l n xs)) ((l == m) && (n == k))
+    ∙ ap (λ b. b || ((l == m) && (n == k))) (sym (any_counted (is_ticket_of m k) (without l n xs)))))
+  where
+    above_none : (c : ℕ) (b : Bool) → nat_lt 0 (c + once b) ≡ (nat_lt 0 c || b)
+    above_none c true = lt-ltb 0 (c + 1) (omega arith) ∙ sym (or-true (nat_lt 0 c))
+    above_none c false = ap (nat_lt 0) (let z : c + 0 ≡ c = omega arith in z) ∙ sym (or-false (nat_lt 0 c))
 
 -- what is below the number after the lane's next is below that or is it
 below_handed : (s : State) (l m k : ℕ) (v : LaneState) → slice_get s.lanes l ≡ Some v
@@ -101,6 +107,7 @@ below_handed s l m k v at =
 one_longer : (xs : List Plain) (n : ℕ) (y : Plain) → slice_get xs n ≡ Some y → take (n + 1) xs ≡ take n xs ++ y ∷ []
 one_longer xs n y at = take_more xs n y (slice_get_within xs n y at) ∙ ap (λ z. take n xs ++ z ∷ []) (get_or_from_slice_get xs n y y at)
 
+-- std's `or_comm` and `or_assoc`, of three
 last_to_front : (a b c : Bool) → (a || (b || c)) ≡ ((a || c) || b)
 last_to_front a b c = ap (λ d. a || d) (or_comm b c) ∙ sym (or_assoc a c b)
 
@@ -128,7 +135,7 @@ hand_done c l x y e at gives = λ s r shows.
     let shown : shown_lane w ≡ lane_contents x.closed x.issued (x.handed ++ y ∷ []) x.polled =
     λ i. lane_contents (f.2 i).closed (f.2 i).issued ((one_longer v.submitted v.handed y row_here ∙ ap (λ (u : LaneContents). u.handed ++ y ∷ []) f.2) i)
     (f.2 i).polled in
-    done c _ s t (Hand l) (ap (hand s l) f.1 ∙ (λ i. cond (waits i) (Some t) None))
+    done _ s t (Hand l) (ap (hand s l) f.1 ∙ (λ i. cond (waits i) (Some t) None))
     record {
       year = shows.year;
       lanes = (λ i. set (shows.lanes i) l (sym shown i)) ∙ sym (map-set shown_lane s.lanes l w);

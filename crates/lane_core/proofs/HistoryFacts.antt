@@ -1,4 +1,5 @@
--- What each event leaves of a lane's submitted rows, of how many it has polled, and of its closing (`Grows`): for the laws on a machine's history.
+-- What each event leaves of a lane's submitted rows, of how many it has polled, and of its closing (`Grows`): the law `nothing_after_close`, and
+-- for the laws `lists_grow` and `done_stays_done`.
 -- It goes through the events one by one, as QueueFacts and StepFacts do.
 use Rattle.std.proofs.Common.{◌≡◌, ◌≢◌, ⊎_elim, ℕ, ◌≤◌, ◌^◌, ◌&&◌, not, nat_lt, true, false, List, [], ◌∷◌, ◌++◌, length, append_assoc, append-nil, set, Option, Some, None, refl, sym, ap, ◌∙◌, arith}
 use Rattle.std.specs.List.{slice_get}
@@ -6,12 +7,13 @@ use Rattle.std.proofs.lemmas.Bool.{cases_eq, both_ways, not-true, and_parts}
 use Rattle.lane_core.specs.declared.event.Event.{Event}
 use Rattle.lane_core.specs.declared.event.Event.TheVariants.{Submit, Take, Post, Collect, Hand, Poll, Close}
 use Rattle.lane_core.specs.declared.job.Plain.{Plain}
+use Rattle.lane_core.specs.History.{NothingAfterClose}
 use Rattle.lane_core.specs.Machine.{LaneState, State, after, close, collect, hand, is_closed, next_job, or_same, poll, polled_of, post, run, state, submit, submitted_by, take_job}
 use Rattle.lane_core.specs.Tickets.{is_among}
 use Rattle.lane_core.proofs.ChangedLane.{lane_else, lane_here, lane_was}
 use Rattle.lane_core.proofs.AllowedEvents.{by_test}
 
--- a lane's submitted rows and polled number from one state to another
+-- from one state to another: more may be submitted and polled, and a closed lane stays closed and submits nothing more
 pub record Grows (s t : State) (l : ℕ) : Type 0 where
   pub more : List Plain
   pub submitted : submitted_by t l ≡ submitted_by s l ++ more
@@ -53,6 +55,7 @@ changed s i l v w jobs results waiting more at submitted polled closed = ⊎_eli
     })
     (cases_eq l i)
 
+-- each event
 submit_grows : (l : ℕ) (s : State) (i : ℕ) (row : List ℕ) (o : Option LaneState) → slice_get s.lanes i ≡ o → Grows s (or_same s (submit s i row o)) l
 submit_grows l s i row None at = same s l
 submit_grows l s i row (Some v) at = by_test (λ t. Grows s t l) s _ (not v.closed && nat_lt (length v.submitted) (2 ^ 32)) (same s l)
@@ -89,6 +92,7 @@ close_grows l s i None at = same s l
 close_grows l s i (Some v) at = by_test (λ t. Grows s t l) s _ (not v.closed) (same s l)
     (λ _. changed s i l v _ _ _ _ [] at (sym (append-nil v.submitted)) (omega arith) (λ f. (refl, refl)))
 
+-- one event, whichever it is
 step_grows : (l : ℕ) (s : State) (e : Event) → Grows s (after s e) l
 step_grows l s (Submit i row) = submit_grows l s i row (slice_get s.lanes i) refl
 step_grows l s (Take w) = take_grows l s w (slice_get s.workers w) s.jobs
@@ -98,6 +102,7 @@ step_grows l s (Hand i) = hand_grows l s i (slice_get s.lanes i) refl
 step_grows l s (Poll i) = poll_grows l s i (slice_get s.lanes i) refl
 step_grows l s (Close i) = close_grows l s i (slice_get s.lanes i) refl
 
+-- from one state to another and on to a third
 grows_both : (r s t : State) (l : ℕ) → Grows r s l → Grows s t l → Grows r t l
 grows_both r s t l a b = record {
   more = a.more ++ b.more;
@@ -106,13 +111,13 @@ grows_both r s t l a b = record {
   closed = λ e. let x = a.closed e in let y = b.closed x.1 in ((λ i. x.0 i ++ y.0 i), y.1);
 }
 
+-- and so several events
 pub run_grows : (l : ℕ) (s : State) (es : List Event) → Grows s (run s es) l
 run_grows l s [] = same s l
 run_grows l s (e ∷ es) = grows_both s (after s e) (run (after s e) es) l (step_grows l s e) (run_grows l (after s e) es)
 
-pub close_holds : (s : State) (es : List Event) (l : ℕ) → is_closed s l ≡ true → (submitted_by (run s es) l ≡ submitted_by s l)
-    × (is_closed (run s es) l ≡ true)
-close_holds s es l closed =
+pub nothing_after_close : NothingAfterClose
+nothing_after_close s es l closed =
     let g = run_grows l s es in
     let x = g.closed closed in
     (g.submitted ∙ (ap (λ xs. submitted_by s l ++ xs) x.0 ∙ append-nil (submitted_by s l)), x.1)

@@ -1,4 +1,5 @@
 -- A world shows the machine's next state: events of lanes (`World::submit`, `World::poll`, `World::close`), and any event of a lane that is not there.
+-- `x` is what the world keeps of lane l, `v` is the machine's lane, and `w` is that lane after the event.
 use Rattle.std.proofs.Common.{◌≡◌, ℕ, ◌+◌, ◌<◌, ◌≤◌, ◌^◌, ◌||◌, not, nat_lt, cond, true, false, List, [], ◌∷◌, ◌++◌, map, length, length-append, set, Some, None, refl, sym, ap, ◌∙◌, subst, arith, ◌&&◌}
 use Rattle.std.specs.List.{slice_get}
 use Rattle.std.proofs.lemmas.Bool.{le-ltb, lt-ltb, and_left, and_right, and_from, not_from_true, not_from_false, cond-false}
@@ -26,6 +27,7 @@ Found s l c = (v : LaneState) × (slice_get s.lanes l ≡ Some v) × (shown_lane
 pub found : (c : Contents) (s : State) (l : ℕ) (x : LaneContents) → ShowsState c s → slice_get c.lanes l ≡ Some x → Found s l x
 found c s l x shows at = get_back shown_lane s.lanes l x (ap (λ (xs : List LaneContents). slice_get xs l) (sym shows.lanes) ∙ at)
 
+-- a lane that the world does not have
 past : (c : Contents) (s : State) (l : ℕ) → ShowsState c s → length c.lanes ≤ l → slice_get s.lanes l ≡ None
 past c s l shows e = get_none_back shown_lane s.lanes l (ap (λ (xs : List LaneContents). slice_get xs l) (sym shows.lanes) ∙ slice_get_past c.lanes l e)
 
@@ -42,7 +44,7 @@ poll_past c l e = λ s r shows. idle c s (Poll l) (ap (poll s l) (past c s l sho
 pub close_past : (c : Contents) (l : ℕ) → length c.lanes ≤ l → Steps c (Close l) false c
 close_past c l e = λ s r shows. idle c s (Close l) (ap (close s l) (past c s l shows e)) shows
 
--- one lane changed: what was handed stays
+-- one lane changed, and `x` is what the world keeps of it afterwards; for `nexts_kept` and `known_kept` it was handed nothing
 lanes_with : (c : Contents) (s : State) (l : ℕ) (v w : LaneState) (x : LaneContents) → ShowsState c s → shown_lane w ≡ x → set c.lanes l x
     ≡ map shown_lane (set s.lanes l w)
 lanes_with c s l v w x shows is = (λ i. set (shows.lanes i) l (sym is i)) ∙ sym (map-set shown_lane s.lanes l w)
@@ -91,8 +93,8 @@ submit_closed c l row x at closed = λ s r shows.
     let off = and_left (not v.closed) (nat_lt (length v.submitted) (2 ^ 32)) (not_from_true v.closed (ap (λ (u : LaneContents). u.closed) f.2 ∙ closed)) in
     idle c s (Submit l row) (not_submitted s l row v f.1 off) shows
 
-pub submit_full : (c : Contents) (l : ℕ) (row : List ℕ) (x : LaneContents) → slice_get c.lanes l ≡ Some x → 2 ^ 32 ≤ x.issued → Steps c (Submit l row) false c
-submit_full c l row x at full = λ s r shows.
+pub submit_spent : (c : Contents) (l : ℕ) (row : List ℕ) (x : LaneContents) → slice_get c.lanes l ≡ Some x → 2 ^ 32 ≤ x.issued → Steps c (Submit l row) false c
+submit_spent c l row x at full = λ s r shows.
     let f = found c s l x shows at in
     let v = f.0 in
     let count = ap (λ (u : LaneContents). u.issued) f.2 in
@@ -115,7 +117,7 @@ submit_done c l row x at open_ room = λ s r shows.
     let shown : shown_lane w ≡ lane_contents x.closed (x.issued + 1) x.handed x.polled =
     λ i. lane_contents (f.2 i).closed ((length-append v.submitted (job ∷ []) ∙ ap (λ n. n + 1) count) i)
     ((take-append-le v.handed v.submitted (job ∷ []) most ∙ ap (λ (u : LaneContents). u.handed) f.2) i) (f.2 i).polled in
-    done c _ s t (Submit l row) (ap (submit s l row) f.1 ∙ (λ i. cond (on i) (Some t) None))
+    done _ s t (Submit l row) (ap (submit s l row) f.1 ∙ (λ i. cond (on i) (Some t) None))
     record {
       year = shows.year;
       lanes = lanes_with c s l v w _ shows shown;
@@ -127,12 +129,13 @@ submit_done c l row x at open_ room = λ s r shows.
       known = known_kept c s l v w shows f.1 refl;
     }
 
--- polling
+-- the world keeps as many deliveries of a lane as the machine has handed it
 pub handed_count : (c : Contents) (s : State) (l : ℕ) (x : LaneContents) (good : Good s) (f : Found s l x) → length x.handed ≡ f.0.handed
 handed_count c s l x good f =
     let v = f.0 in
     ap (λ (u : LaneContents). length u.handed) (sym f.2) ∙ length-take-le v.handed v.submitted (handed_within s l v f.1 good)
 
+-- polling
 pub poll_none : (c : Contents) (l : ℕ) (x : LaneContents) → slice_get c.lanes l ≡ Some x → length x.handed ≤ x.polled → Steps c (Poll l) false c
 poll_none c l x at none = λ s r shows.
     let f = found c s l x shows at in
@@ -152,7 +155,7 @@ poll_done c l x at more = λ s r shows.
     let on = lt-ltb v.polled v.handed (omega arith) in
     let w = lane_state v.submitted v.closed (v.polled + 1) v.handed in
     let t = state s.year (set s.lanes l w) s.jobs s.workers s.results s.waiting in
-    done c _ s t (Poll l) (ap (poll s l) f.1 ∙ (λ i. cond (on i) (Some t) None))
+    done _ s t (Poll l) (ap (poll s l) f.1 ∙ (λ i. cond (on i) (Some t) None))
     (lane_shows c s l v w _ shows f.1 refl (λ i. lane_contents (f.2 i).closed (f.2 i).issued (f.2 i).handed ((f.2 i).polled + 1)))
 
 -- closing
@@ -171,5 +174,5 @@ close_done c l x at open_ = λ s r shows.
     let on = not_from_false v.closed (ap (λ (u : LaneContents). u.closed) f.2 ∙ open_) in
     let w = lane_state v.submitted true v.polled v.handed in
     let t = state s.year (set s.lanes l w) s.jobs s.workers s.results s.waiting in
-    done c _ s t (Close l) (ap (close s l) f.1 ∙ (λ i. cond (on i) (Some t) None))
+    done _ s t (Close l) (ap (close s l) f.1 ∙ (λ i. cond (on i) (Some t) None))
     (lane_shows c s l v w _ shows f.1 refl (λ i. lane_contents true (f.2 i).issued (f.2 i).handed (f.2 i).polled))

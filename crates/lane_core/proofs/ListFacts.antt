@@ -1,4 +1,4 @@
--- Lists of any items: what stands at a place, and lists of one item.
+-- Lists of any items: what stands at a place, and lists that repeat one item. `ListsByPlace` of hub_core has more of what stands at a place.
 use Rattle.std.proofs.Common.{◌≡◌, ◌≢◌, ℕ, zero, suc, List, [], ◌∷◌, map, get_or, set, replicate, Some, None, refl, ap, ◌∙◌, length, length-set, get_or-set_same, sym}
 use Rattle.std.specs.List.{slice_get}
 use Rattle.std.specs.Option.{option_map}
@@ -31,11 +31,12 @@ get_set_else (y ∷ ys) zero (suc k) x apart = refl
 get_set_else (y ∷ ys) (suc l) zero x apart = refl
 get_set_else (y ∷ ys) (suc l) (suc k) x apart = get_set_else ys l k x (λ h. apart (ap suc h))
 
--- lists of one item
+-- lists that repeat one item
 pub map_replicate : {X Y : Type 0} (f : X → Y) (n : ℕ) (x : X) → map f (replicate n x) ≡ replicate n (f x)
 map_replicate f zero x = refl
 map_replicate f (suc n) x = λ i. f x ∷ map_replicate f n x i
 
+-- also past the end, of which std's `get_or-replicate` says nothing; hub_core's `empties_at` is the same of lists that are empty
 pub get_or_zeros : (n l : ℕ) → get_or (replicate n zero) l zero ≡ zero
 get_or_zeros zero l = refl
 get_or_zeros (suc n) zero = refl

@@ -1,22 +1,21 @@
--- What a lane has polled is the first of what it has submitted, and each issued ticket is in one place: for the laws on polling and `tickets_once`.
-use Rattle.std.proofs.Common.{◌≡◌, ℕ, ◌≤◌, nat_lt, true, zero, suc, List, ◌++◌, length, take, sym, ap, ◌∙◌, arith, drop, take-append-drop}
-use Rattle.std.specs.List.{AllByRecursion}
+-- Each issued ticket is in one place (the law `tickets_once`), and what a lane has polled is the first of what it has submitted: the laws
+-- `polled_in_order`, `lists_grow` and `done_stays_done`.
+use Rattle.std.proofs.Common.{◌≡◌, ℕ, ◌≤◌, nat_lt, zero, suc, List, ◌++◌, length, take, sym, ap, ◌∙◌, arith, drop, take-append-drop}
 use Rattle.std.proofs.lemmas.Bool.Decides.{nat_tests}
 use Rattle.std.proofs.lemmas.List.{length-take-le, take_all, take-append-le, take-take}
-use Rattle.lane_core.specs.declared.event.Event.{Event}
 use Rattle.lane_core.specs.declared.job.Plain.{Plain}
-use Rattle.lane_core.specs.Machine.{State, IsReached, handed_of, is_closed, issued_of, polled_by, polled_of, run, submitted_by}
-use Rattle.lane_core.specs.Tickets.{numbered}
+use Rattle.lane_core.specs.History.{DoneStaysDone, ListsGrow, PolledInOrder}
+use Rattle.lane_core.specs.Machine.{State, handed_of, issued_of, polled_of, run, submitted_by}
 use Rattle.lane_core.specs.Weights.{once}
-use Rattle.lane_core.specs.Whereabouts.{times_at}
+use Rattle.lane_core.specs.Whereabouts.{TicketsOnce}
 use Rattle.lane_core.proofs.GoodFacts.{Good}
-use Rattle.lane_core.proofs.HistoryFacts.{close_holds, run_grows}
+use Rattle.lane_core.proofs.HistoryFacts.{nothing_after_close, run_grows}
 use Rattle.lane_core.proofs.StepFacts.{reached_good, reached_run}
 use Rattle.lane_core.proofs.TruthFacts.{once_below, once_not_below, between_or_below}
 use Rattle.lane_core.proofs.TicketFacts.{numbered-take}
 
-pub tickets_once : (s : State) (l k : ℕ) → IsReached s → times_at s l k ≡ once (nat_lt k (issued_of s l))
-tickets_once s l k r =
+pub tickets_once : TicketsOnce
+tickets_once s r l k =
     let good = reached_good s r in
     omega (arith, good.one l k, between_or_below k (polled_of s l) (handed_of s l) (good.few l))
 
@@ -25,17 +24,14 @@ no_further : (h i : ℕ) → ((k : ℕ) → once (nat_lt k h) ≤ once (nat_lt k
 no_further zero i each = omega arith
 no_further (suc h) i each = let a = each h in let b = once_below h (suc h) (omega arith) in let c = once_not_below h i in grind (arith, nat_tests)
 
+-- a lane was handed no more than it has issued, and has polled no more
 pub handed_issued : (s : State) (l : ℕ) → Good s → handed_of s l ≤ issued_of s l
 handed_issued s l good = no_further (handed_of s l) (issued_of s l) (λ k. omega (arith, good.one l k))
 
 pub polled_issued : (s : State) (l : ℕ) → Good s → polled_of s l ≤ issued_of s l
 polled_issued s l good = let a = good.few l in let b = handed_issued s l good in omega arith
 
-pub polled_in_order : (s : State) (l : ℕ) → IsReached s →
-    (numbered l 0 (submitted_by s l) ≡ true)
-    × AllByRecursion (λ x. x.year ≡ s.year) (submitted_by s l)
-    × (numbered l 0 (polled_by s l) ≡ true)
-    × (length (polled_by s l) ≡ polled_of s l)
+pub polled_in_order : PolledInOrder
 polled_in_order s l r =
     let good = reached_good s r in (
       good.in_order l,
@@ -50,9 +46,7 @@ begins p q xs ys a b =
     let front = take q (xs ++ ys) in
     (drop p front, sym (take-append-drop p front) ∙ ap (λ zs. zs ++ drop p front) (take-take p q (xs ++ ys) a ∙ take-append-le p xs ys b))
 
-pub lists_grow : (s : State) (es : List Event) (l : ℕ) → IsReached s →
-    ((more : List Plain) × (submitted_by (run s es) l ≡ submitted_by s l ++ more))
-    × ((more : List Plain) × (polled_by (run s es) l ≡ polled_by s l ++ more))
+pub lists_grow : ListsGrow
 lists_grow s es l r =
     let g = run_grows l s es in
     let first = begins (polled_of s l) (polled_of (run s es) l) (submitted_by s l) g.more g.polled (polled_issued s l (reached_good s r)) in (
@@ -60,11 +54,10 @@ lists_grow s es l r =
       (first.0, ap (take (polled_of (run s es) l)) g.submitted ∙ first.1),
     )
 
-pub done_stays_done : (s : State) (es : List Event) (l : ℕ) → IsReached s → is_closed s l ≡ true → polled_of s l ≡ issued_of s l
-    → (polled_by s l ≡ submitted_by s l) × (polled_by (run s es) l ≡ polled_by s l)
+pub done_stays_done : DoneStaysDone
 done_stays_done s es l r closed all =
     let g = run_grows l s es in
-    let held = close_holds s es l closed in
+    let held = nothing_after_close s es l closed in
     let most = polled_issued (run s es) l (reached_good (run s es) (reached_run s es r)) in
     let least = g.polled in
     let count = ap (λ (xs : List Plain). length xs) held.0 in

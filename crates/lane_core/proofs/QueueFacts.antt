@@ -4,28 +4,29 @@ use Rattle.std.proofs.Common.{◌≡◌, ℕ, ◌^◌, ◌&&◌, not, nat_lt, co
 use Rattle.std.specs.List.{slice_get, sum_by}
 use Rattle.std.specs.Option.{is_some}
 use Rattle.std.proofs.lemmas.List.Sums.{sum_by-append}
-use Rattle.element_core.specs.Terms.{Terms}
 use Rattle.lane_core.specs.declared.event.Event.{Event}
 use Rattle.lane_core.specs.declared.event.Event.TheVariants.{Submit, Take, Post, Collect, Hand, Poll, Close}
 use Rattle.lane_core.specs.declared.job.Plain.{Plain}
 use Rattle.lane_core.specs.Plain.{plain_of}
-use Rattle.lane_core.specs.History.{Keeps, all_of, held_by, job_popped, job_pushed, result_popped, result_pushed}
+use Rattle.lane_core.specs.History.{Keeps, QueuesKeep, all_of, held_by, job_popped, job_pushed, result_popped, result_pushed}
 use Rattle.lane_core.specs.Machine.{LaneState, State, after, close, collect, hand, of_lane, or_same, poll, post, run, start, submit, take_job}
 use Rattle.lane_core.specs.Tickets.{is_among}
 use Rattle.lane_core.proofs.AllowedEvents.{by_test}
 
--- in any lane's event neither queue changes, save that a submit pushes its job
+-- an event that asks a test and leaves the queue as it is: what it pushes and pops is nothing
 lane_jobs : (s : State) (b : Bool) (t : State) → t.jobs ≡ s.jobs → s.jobs ++ [] ≡ [] ++ (or_same s (cond b (Some t) None)).jobs
 lane_jobs s b t e = by_test (λ u. s.jobs ++ [] ≡ [] ++ u.jobs) s t b (append-nil s.jobs) (λ _. append-nil s.jobs ∙ sym e)
 
 lane_results : (s : State) (b : Bool) (t : State) → t.results ≡ s.results → s.results ++ [] ≡ [] ++ (or_same s (cond b (Some t) None)).results
 lane_results s b t e = by_test (λ u. s.results ++ [] ≡ [] ++ u.results) s t b (append-nil s.results) (λ _. append-nil s.results ∙ sym e)
 
+-- a submit pushes its job if its test passes
 submit_by : (s : State) (x : Plain) (b : Bool) (t : State) → t.jobs ≡ s.jobs ++ x ∷ [] → s.jobs ++ cond (is_some (cond b (Some t) None)) (x ∷ []) [] ≡ []
     ++ (or_same s (cond b (Some t) None)).jobs
 submit_by s x true t e = sym e
 submit_by s x false t e = append-nil s.jobs
 
+-- each event: what it pushes on a queue, and pops from it
 submit_jobs : (s : State) (l : ℕ) (row : List ℕ) (o : Option LaneState)
     → s.jobs ++ cond (is_some (submit s l row o)) (plain_of l (length (of_lane [] (λ v. v.submitted) o)) s.year row ∷ []) [] ≡ []
     ++ (or_same s (submit s l row o)).jobs
@@ -103,7 +104,7 @@ step_results s (Hand l) = (hand_both s l (slice_get s.lanes l)).1
 step_results s (Poll l) = (poll_both s l (slice_get s.lanes l)).1
 step_results s (Close l) = (close_both s l (slice_get s.lanes l)).1
 
--- and several
+-- several events on a queue q, where each pushes f and pops g
 run_queue : (q : State → List Plain) (f g : State → Event → List Plain) → ((s : State) (e : Event) → q s ++ f s e ≡ g s e ++ q (after s e))
     → (s : State) (es : List Event) → q s ++ all_of f s es ≡ all_of g s es ++ q (run s es)
 run_queue q f g each s [] = append-nil (q s)
@@ -115,13 +116,11 @@ run_queue q f g each s (e ∷ es) =
     ∙ (ap (λ xs. g s e ++ xs) (run_queue q f g each t es)
     ∙ sym (append_assoc (g s e) (all_of g t es) (q (run t es))))))
 
+-- the first part of `Keeps` gives the second
 keeps_from : (pushed popped held : List Plain) → pushed ≡ popped ++ held → Keeps pushed popped held
 keeps_from pushed popped held e = (e, λ h. ap (sum_by h) e ∙ sum_by-append h popped held)
 
-pub queues_keep : (lanes workers : ℕ) (year : Terms) (es : List Event) →
-    Keeps (all_of job_pushed (start lanes workers year) es) (all_of job_popped (start lanes workers year) es) (run (start lanes workers year) es).jobs
-    × Keeps (all_of result_pushed (start lanes workers year) es) (all_of result_popped (start lanes workers year) es)
-    (run (start lanes workers year) es).results
+pub queues_keep : QueuesKeep
 queues_keep lanes workers year es =
     let s = start lanes workers year in (
       keeps_from (all_of job_pushed s es) (all_of job_popped s es) (run s es).jobs (run_queue (λ t. t.jobs) job_pushed job_popped step_jobs s es),

@@ -16,11 +16,13 @@ use Rattle.lane_core.specs.declared.job.Plain.{Plain}
 use Rattle.lane_core.specs.Plain.{plain_of}
 use Rattle.lane_core.specs.Weights.{once}
 
-abbrev same_year : Terms → Terms → Bool
-same_year x y = (x.year == y.year) && beq x.every y.every
+-- a reference year by the tests of its two fields
+abbrev is_same_year : Terms → Terms → Bool
+is_same_year x y = (x.year == y.year) && beq x.every y.every
 
+-- whether two items are the same: each field by its own test
 abbrev pub is_same : Plain → Plain → Bool
-is_same x y = (x.number == y.number) && ((x.lane == y.lane) && (same_year x.year y.year && pointwise (λ a b. a == b) x.widths y.widths))
+is_same x y = (x.number == y.number) && ((x.lane == y.lane) && (is_same_year x.year y.year && pointwise (λ a b. a == b) x.widths y.widths))
 
 -- the test decides each field
 fields : (x y : Plain) → Decides (is_same x y)
@@ -29,6 +31,7 @@ fields x y = Decides-and _ _ (Decides-eqb x.number y.number) (Decides-and _ _ (D
     (Decides-and _ _ (Decides-eqb x.year.year y.year.year) (booleans_Decides x.year.every y.year.every))
     (slice_eq-Decides Decides-eqb x.widths y.widths _ refl)))
 
+-- an item is the same as itself, and items that are the same are equal
 pub same_self : (x : Plain) → is_same x x ≡ true
 same_self x = (fields x x).1 (refl, (refl, ((refl, refl), refl)))
 

@@ -1,17 +1,17 @@
 -- Where all that several lanes submitted is: the law `all_found`.
-use Rattle.std.proofs.Common.{◌≡◌, ℕ, ◌+◌, ◌<◌, ◌≤◌, ◌==◌, List, Some, ap, arith}
-use Rattle.std.specs.List.{slice_get, sum_by, count_by}
+use Rattle.std.proofs.Common.{◌≡◌, ℕ, ◌≤◌, ◌==◌, List, ap, arith}
+use Rattle.std.specs.List.{sum_by, count_by}
 use Rattle.lane_core.specs.declared.job.Plain.{Plain}
-use Rattle.lane_core.specs.Settling.{Account, AreNumbered, EachLaneOnce, sifted}
+use Rattle.lane_core.specs.Settling.{Account, AllFound, AreNumbered, EachLaneOnce}
 use Rattle.lane_core.specs.inner.Settling.{is_elsewhere}
 use Rattle.lane_core.specs.Tickets.{is_ticket_of}
-use Rattle.lane_core.specs.Weights.{OneForOne, once}
+use Rattle.lane_core.specs.Weights.{once}
 use Rattle.lane_core.proofs.SiftFacts.{none_aside}
 use Rattle.lane_core.proofs.WeightFacts.{sum_each_le, sum_each_none}
 use Rattle.lane_core.proofs.TicketFacts.{all_here, ticket_once}
 
 -- the tickets of all lanes, each once at most
-pub submitted_once : (accounts : List Account) → AreNumbered accounts → EachLaneOnce accounts → (l k : ℕ)
+submitted_once : (accounts : List Account) → AreNumbered accounts → EachLaneOnce accounts → (l k : ℕ)
     → sum_by (λ a. count_by (is_ticket_of l k) a.submitted) accounts ≤ 1
 submitted_once accounts each one l k =
     let a = sum_each_le (λ (u : Account). count_by (is_ticket_of l k) u.submitted) (λ (u : Account). once (u.lane == l)) accounts
@@ -19,17 +19,7 @@ submitted_once accounts each one l k =
     let b = one l in omega arith
 
 -- every submitted row is in one of these places
-pub all_found : (n : ℕ) (accounts : List Account) (taken posted collected jobs hands results waiting hand : List Plain) (sent : (Plain → ℕ) → ℕ)
-    → AreNumbered accounts
-    → ((i : ℕ) (a : Account) → slice_get accounts i ≡ Some a → a.lane < n)
-    → EachLaneOnce accounts
-    → ((h : Plain → ℕ) → sum_by (λ a. sum_by h a.submitted) accounts ≡ sum_by h taken + sum_by h jobs)
-    → OneForOne taken posted hands
-    → OneForOne posted collected results
-    → ((h : Plain → ℕ) → sum_by h (sifted n collected) ≡ (sum_by h waiting + sum_by h hand) + sent h)
-    → (sifted n collected ≡ collected)
-    × ((h : Plain → ℕ) → sum_by (λ a. sum_by h a.submitted) accounts
-    ≡ ((((sum_by h jobs + sum_by h hands) + sum_by h results) + sum_by h waiting) + sum_by h hand) + sent h)
+pub all_found : AllFound
 all_found n accounts taken posted collected jobs hands results waiting hand sent each there one of_jobs of_workers of_results of_deliverer =
     let few : (l k : ℕ) → count_by (is_ticket_of l k) collected ≤ 1 = λ l k.
     let t : Plain → ℕ = λ x. once (is_ticket_of l k x) in

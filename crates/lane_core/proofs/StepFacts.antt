@@ -16,6 +16,7 @@ use Rattle.lane_core.proofs.UnderWay.{collected_under_way, posted_under_way, tak
 use Rattle.lane_core.proofs.WeightFacts.{none_in}
 use Rattle.lane_core.proofs.AllowedEvents.{by_test}
 
+-- each event
 submit_keeps : (s : State) (l : ℕ) (row : List ℕ) (o : Option LaneState) → slice_get s.lanes l ≡ o → Good s → Good (or_same s (submit s l row o))
 submit_keeps s l row None at good = good
 submit_keeps s l row (Some v) at good = by_test Good s _ (not v.closed && nat_lt (length v.submitted) (2 ^ 32)) good
@@ -58,7 +59,8 @@ close_keeps s l None at good = good
 close_keeps s l (Some v) at good = by_test Good s _ (not v.closed) good
     (λ _. settled s l v (lane_state v.submitted true v.polled v.handed) at refl refl (few_of s l v at good) good)
 
-pub step_keeps : (s : State) (e : Event) → Good s → Good (after s e)
+-- one event, whichever it is, and several
+step_keeps : (s : State) (e : Event) → Good s → Good (after s e)
 step_keeps s (Submit l row) good = submit_keeps s l row (slice_get s.lanes l) refl good
 step_keeps s (Take w) good = take_keeps s w (slice_get s.workers w) s.jobs refl refl good
 step_keeps s (Post w) good = post_keeps s w (slice_get s.workers w) refl good
@@ -67,16 +69,17 @@ step_keeps s (Hand l) good = hand_keeps s l (slice_get s.lanes l) refl good
 step_keeps s (Poll l) good = poll_keeps s l (slice_get s.lanes l) refl good
 step_keeps s (Close l) good = close_keeps s l (slice_get s.lanes l) refl good
 
-pub run_keeps : (s : State) (es : List Event) → Good s → Good (run s es)
+run_keeps : (s : State) (es : List Event) → Good s → Good (run s es)
 run_keeps s [] good = good
 run_keeps s (e ∷ es) good = run_keeps (after s e) es (step_keeps s e good)
 
--- of a lane that has done nothing, or of none
+-- what there is of a lane that has done nothing, and of one that is not there
 pub of_fresh : {X : Type 0} (d : X) (f : LaneState → X) (v : LaneState) (n l : ℕ) → f v ≡ d → of_lane d f (slice_get (replicate n v) l) ≡ d
 of_fresh d f v zero l e = refl
 of_fresh d f v (suc n) zero e = e
 of_fresh d f v (suc n) (suc l) e = of_fresh d f v n l e
 
+-- a new machine
 start_good : (lanes workers : ℕ) (year : Terms) → Good (start lanes workers year)
 start_good lanes workers year =
     let fresh = lane_state [] false 0 0 in
@@ -96,7 +99,8 @@ start_good lanes workers year =
 pub reached_good : (s : State) → IsReached s → Good s
 reached_good s r = subst Good r.4 (run_keeps (start r.0 r.1 r.2) r.3 (start_good r.0 r.1 r.2))
 
-pub run_run : (s : State) (es ds : List Event) → run s (es ++ ds) ≡ run (run s es) ds
+-- to run two lists of events one after the other is to run them as one; so more events lead from a reached state to a reached one
+run_run : (s : State) (es ds : List Event) → run s (es ++ ds) ≡ run (run s es) ds
 run_run s [] ds = refl
 run_run s (e ∷ es) ds = run_run (after s e) es ds
 

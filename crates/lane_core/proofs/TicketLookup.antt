@@ -1,7 +1,10 @@
 -- What stands in a deliverer's map under a ticket, and which tickets are known.
+-- `es` are the map's entries, `ts` the known tickets, `R` an order of tickets, and `test` the test of a look-up. A lemma `.._here`, `put_at`,
+-- `out_at` or `gone_at` is the step of the lemma after it: it goes by whether the first entry or ticket is the one, or by how the two compare.
 use Rattle.std.proofs.Common.{◌≡◌, ℕ, ◌+◌, ◌<◌, ◌≤◌, ◌^◌, ◌==◌, ◌&&◌, ◌||◌, nat_lt, cond, Bool, true, false, List, [], ◌∷◌, Some, refl, sym, ap, ◌∙◌, subst, arith}
 use Rattle.std.specs.Map.{lookup, remove_entry, values_of}
 use Rattle.std.specs.Ordering.{is_eq, nat_cmp, ordering_then, match_ordering}
+use Rattle.std.specs.Cmp.{tied_then}
 use Rattle.std.specs.declared.cmp.Ordering.{Ordering}
 use Rattle.std.specs.declared.cmp.Ordering.TheVariants.{Less, Equal, Greater}
 use Rattle.std.specs.BTreeMap.{insert_entry, is_at}
@@ -26,31 +29,27 @@ use Rattle.lane_core.proofs.ResultFacts.{some_or}
 abbrev pub cmp_tickets : Ticket → Ticket → Ordering
 cmp_tickets a t = ordering_then (nat_cmp a.lane t.lane) (nat_cmp a.number t.number)
 
--- the test finds lane l's number k alone
+-- the test finds lane l's number k alone: `is_ticket_of` of a ticket
 abbrev pub Finds : (Ticket → Bool) → ℕ → ℕ → Type 0
 Finds test l k = (t : Ticket) → test t ≡ ((t.lane == l) && (t.number == k))
 
+-- numbers that compare as equal are one number
 nat_cmp_eq : (a b : ℕ) → is_eq (nat_cmp a b) ≡ (b == a)
 nat_cmp_eq a b = grind (arith, nat_tests)
 
-then_eq : (x y : Ordering) → is_eq (ordering_then x y) ≡ (is_eq x && is_eq y)
-then_eq Less y = refl
-then_eq Equal y = refl
-then_eq Greater y = refl
-
--- the order of tickets finds a ticket's own lane and number
+-- the order of tickets finds a ticket's own lane and number: `Finds`, of its test
 pub finds_own : (a t : Ticket) → is_eq (cmp_tickets a t) ≡ ((t.lane == a.lane) && (t.number == a.number))
 finds_own a t =
-    then_eq (nat_cmp a.lane t.lane) (nat_cmp a.number t.number)
+    sym (tied_then (nat_cmp a.lane t.lane) (nat_cmp a.number t.number))
     ∙ (ap (λ b. b && is_eq (nat_cmp a.number t.number)) (nat_cmp_eq a.lane t.lane)
     ∙ ap (λ b. (t.lane == a.lane) && b) (nat_cmp_eq a.number t.number))
 
--- and those that they are known to be
+-- so the test of a ticket that is lane l's number k finds that number alone
 pub finds_at : (a : Ticket) (l k : ℕ) → a.lane ≡ l → a.number ≡ k → Finds (is_at (cmp_tickets a)) l k
 finds_at a l k lane number = λ t. finds_own a t ∙ (λ i. (t.lane == lane i) && (t.number == number i))
 
 -- a tied delivery's lane, number and its bound
-tied_parts : (e : Ticket × Plain) → is_tied e ≡ true → (e.1.lane ≡ e.0.lane) × (e.1.number ≡ e.0.number) × (e.0.number < 2 ^ 32)
+pub tied_parts : (e : Ticket × Plain) → is_tied e ≡ true → (e.1.lane ≡ e.0.lane) × (e.1.number ≡ e.0.number) × (e.0.number < 2 ^ 32)
 tied_parts e h =
     let s = and_parts (is_ticket_of e.0.lane e.0.number e.1) (nat_lt e.0.number (2 ^ 32)) h in
     let t = ticket_parts e.0.lane e.0.number e.1 s.0 in (t.0, t.1, ltb-true e.0.number (2 ^ 32) s.1)
@@ -101,6 +100,7 @@ pub record MoreBy (es : List (Ticket × Plain)) (v : Plain) (fs : List (Ticket �
   pub weight : (h : Plain → ℕ) → sum_by h (values_of fs) ≡ sum_by h (values_of es) + h v
   pub among : (l k : ℕ) → is_among l k (values_of fs) ≡ (is_among l k (values_of es) || is_ticket_of l k v)
 
+-- one more in front, and one more behind the first
 more_first : (e : Ticket × Plain) (es : List (Ticket × Plain)) → MoreBy es e.1 (e ∷ es)
 more_first e es = record {
   weight = λ h. omega (arith, sum_by-cons h e.1 (values_of es));
@@ -127,6 +127,7 @@ pub put_more : (R : Ticket → Ticket → Ordering) (t : Ticket) (v : Plain) (es
 put_more R t v [] absent = more_first (t, v) []
 put_more R t v (e ∷ es) absent = put_here R t v e es (put_more R t v es) (R t e.0) absent
 
+-- deliveries under their own tickets stay so if one more is put in
 tied_first : (e : Ticket × Plain) (es : List (Ticket × Plain)) → is_tied e ≡ true → are_tied es ≡ true → are_tied (e ∷ es) ≡ true
 tied_first e es a b = ap (λ x. x && are_tied es) a ∙ b
 
@@ -146,7 +147,7 @@ put_tied R t v (e ∷ es) new tied absent =
     let s = and_parts (is_tied e) (are_tied es) tied in
     tied_here R t v e es new s.0 s.1 (put_tied R t v es new s.1) (R t e.0) absent
 
--- an entry that was there and is no more
+-- an entry that was there and is no more; std's `sum_by-remove_entry` has the weights alone
 gone_here : (test : Ticket → Bool) (e : Ticket × Plain) (es : List (Ticket × Plain)) (v : Plain)
     → (lookup test es ≡ Some v → MoreBy (remove_entry test es) v es)
     → (b : Bool) → cond b (Some e.1) (lookup test es) ≡ Some v → MoreBy (cond b es (e ∷ remove_entry test es)) v (e ∷ es)
@@ -157,6 +158,7 @@ pub gone_more : (test : Ticket → Bool) (es : List (Ticket × Plain)) (v : Plai
 gone_more test [] v is = absurd (cc)
 gone_more test (e ∷ es) v is = gone_here test e es v (gone_more test es v) (test e.0) is
 
+-- deliveries under their own tickets stay so if one is taken out
 kept_here : (test : Ticket → Bool) (e : Ticket × Plain) (es : List (Ticket × Plain)) → is_tied e ≡ true → are_tied es ≡ true → are_tied (remove_entry test es)
     ≡ true
     → (b : Bool) → are_tied (cond b es (e ∷ remove_entry test es)) ≡ true
@@ -173,19 +175,21 @@ gone_tied test (e ∷ es) tied =
 pub own_tied : (t : Ticket) (x : Plain) → t.lane ≡ x.lane → t.number ≡ x.number → t.number < 2 ^ 32 → is_tied (t, x) ≡ true
 own_tied t x lane number less = grind (arith, nat_tests)
 
--- a look-up finds what is known
+-- one of the tickets passes the test exactly if lane l's number k is known
 pub any_finds : (test : Ticket → Bool) (l k : ℕ) → Finds test l k → (ts : List Ticket) → list_any test ts ≡ is_known l k ts
 any_finds test l k finds [] = refl
 any_finds test l k finds (t ∷ ts) = (λ i. finds t i || any_finds test l k finds ts i)
 
+-- tickets that the order holds for equal are the same lane's same number
 same_ticket : (a t : Ticket) → is_eq (cmp_tickets a t) ≡ true → (l k : ℕ) → ((t.lane == l) && (t.number == k))
     ≡ ((a.lane == l) && (a.number == k))
 same_ticket a t is l k =
     let s = and_parts (t.lane == a.lane) (t.number == a.number) (sym (finds_own a t) ∙ is) in
     (λ i. (eqb-true t.lane a.lane s.0 i == l) && (eqb-true t.number a.number s.1 i == k))
 
-own : (t : Ticket) → ((t.lane == t.lane) && (t.number == t.number)) ≡ true
-own t = and_from (t.lane == t.lane) (t.number == t.number) (eq-eqb t.lane t.lane refl) (eq-eqb t.number t.number refl)
+-- a ticket is its own lane's own number
+own_test : (t : Ticket) → ((t.lane == t.lane) && (t.number == t.number)) ≡ true
+own_test t = and_from (t.lane == t.lane) (t.number == t.number) (eq-eqb t.lane t.lane refl) (eq-eqb t.number t.number refl)
 
 put_at : (t u : Ticket) (l k : ℕ) (ts : List Ticket) → is_known l k (insert_key cmp_tickets ts t) ≡ (is_known l k ts || ((t.lane == l) && (t.number == k)))
     → (o : Ordering) → cmp_tickets t u ≡ o
@@ -205,14 +209,14 @@ out_at : (t u : Ticket) (ts : List Ticket) → remove_key (is_at (cmp_tickets t)
     → ((u.lane == t.lane) && (u.number == t.number)) ≡ false
     → (o : Ordering) → cmp_tickets t u ≡ o → remove_key (is_at (cmp_tickets t)) (match_ordering o (t ∷ u ∷ ts) (u ∷ ts) (u ∷ insert_key cmp_tickets ts t))
     ≡ u ∷ ts
-out_at t u ts later other Less e = ap (λ b. cond b (u ∷ ts) (t ∷ remove_key (is_at (cmp_tickets t)) (u ∷ ts))) (finds_own t t ∙ own t)
+out_at t u ts later other Less e = ap (λ b. cond b (u ∷ ts) (t ∷ remove_key (is_at (cmp_tickets t)) (u ∷ ts))) (finds_own t t ∙ own_test t)
 out_at t u ts later other Equal e = absurd (let c : true ≡ false = sym (ap is_eq e) ∙ (finds_own t u ∙ other) in cc)
 out_at t u ts later other Greater e =
     ap (λ b. cond b (insert_key cmp_tickets ts t) (u ∷ remove_key (is_at (cmp_tickets t)) (insert_key cmp_tickets ts t))) (ap is_eq e) ∙ ap (λ us. u ∷ us) later
 
 -- a ticket that was not known, put in and taken out again
 pub put_gone : (t : Ticket) (ts : List Ticket) → is_known t.lane t.number ts ≡ false → remove_key (is_at (cmp_tickets t)) (insert_key cmp_tickets ts t) ≡ ts
-put_gone t [] absent = ap (λ b. cond b [] (t ∷ [])) (finds_own t t ∙ own t)
+put_gone t [] absent = ap (λ b. cond b [] (t ∷ [])) (finds_own t t ∙ own_test t)
 put_gone t (u ∷ ts) absent =
     let p = or_parts ((u.lane == t.lane) && (u.number == t.number)) (is_known t.lane t.number ts) absent in
     out_at t u ts (put_gone t ts p.1) p.0 (cmp_tickets t u) refl

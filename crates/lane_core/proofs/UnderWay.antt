@@ -1,4 +1,4 @@
--- What is under way after each event, and what waits without a ticket (`without`): for `Good`.
+-- What is under way after each event, and how often a ticket waits without one (`without`): for `Good`.
 use Rattle.std.proofs.Common.{◌≡◌, ℕ, ◌+◌, ◌≤◌, ◌==◌, ◌&&◌, ◌||◌, cond, Bool, true, false, List, [], ◌∷◌, ◌++◌, set, Option, Some, None, option_to_list, refl, ap, arith}
 use Rattle.std.specs.List.{slice_get, sum_by, count_by}
 use Rattle.std.proofs.lemmas.List.Sums.{sum_by-append, sum_by-cons}
@@ -36,6 +36,7 @@ collected_under_way s x results h is =
     let front = ap (sum_by h) is in
     let more = sum_by-append h s.waiting (x ∷ []) in omega (arith, sum_by-cons h x results)
 
+-- by whether the first has the ticket
 out_by : (b : Bool) (l n m k : ℕ) (x : Plain) (xs : List Plain) → is_ticket_of l n x ≡ b → (b || is_among l n xs) ≡ true
     → (is_among l n xs ≡ true → count_by (is_ticket_of m k) (without l n xs) + once ((l == m) && (n == k)) ≡ count_by (is_ticket_of m k) xs)
     → count_by (is_ticket_of m k) (cond b xs (x ∷ without l n xs)) + once ((l == m) && (n == k)) ≡ count_by (is_ticket_of m k) (x ∷ xs)
@@ -43,12 +44,13 @@ out_by true l n m k x xs is any rest = let e = ap once (ticket_is l n m k x is) 
 out_by false l n m k x xs is any rest = let e = rest any in omega
     (arith, sum_by-cons (λ y. once (is_ticket_of m k y)) x xs, sum_by-cons (λ y. once (is_ticket_of m k y)) x (without l n xs))
 
--- what waits without a ticket
+-- how often lane m's number k waits without lane l's number n; HandShowFacts has the sum that is left where all that waits was submitted (`without_own`)
 pub times_without : (l n m k : ℕ) (xs : List Plain) → is_among l n xs ≡ true → count_by (is_ticket_of m k) (without l n xs) + once ((l == m) && (n == k))
     ≡ count_by (is_ticket_of m k) xs
 times_without l n m k [] e = absurd (cc)
 times_without l n m k (x ∷ xs) e = out_by (is_ticket_of l n x) l n m k x xs refl e (λ f. times_without l n m k xs f)
 
+-- no sum over what waits is more without a ticket
 less_by : (b : Bool) (l n : ℕ) (h : Plain → ℕ) (x : Plain) (xs : List Plain) → sum_by h (without l n xs) ≤ sum_by h xs
     → sum_by h (cond b xs (x ∷ without l n xs)) ≤ h x + sum_by h xs
 less_by true l n h x xs rest = omega arith

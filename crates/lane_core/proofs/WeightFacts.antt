@@ -9,7 +9,7 @@ use Rattle.lane_core.specs.declared.job.Plain.{Plain}
 use Rattle.lane_core.specs.Weights.{once}
 use Rattle.lane_core.proofs.TruthFacts.{false_from_once}
 
--- another item at i
+-- Another item at i. hub_core's RuleIsKept has `sum_put` and `sum_at` too, at the place that `get_elem?` reads
 pub sum_put : {X : Type 0} (h : X → ℕ) (xs : List X) (i : ℕ) (v w : X) → slice_get xs i ≡ Some v → sum_by h (set xs i w) + h v ≡ sum_by h xs + h w
 sum_put h xs i v w e = let s = ap h (get_or_from_slice_get xs i v v e) in omega (arith, sum_by-set h xs i w v (slice_get_within xs i v e))
 
@@ -40,15 +40,16 @@ any_counted p xs = any_summed p (λ x. once (p x)) (λ x. counts (p x)) xs
 pub sum_rest : (h : Plain → ℕ) (x y : Plain) (xs ys : List Plain) → x ≡ y → sum_by h (x ∷ xs) ≡ sum_by h (y ∷ ys) → sum_by h xs ≡ sum_by h ys
 sum_rest h x y xs ys e same = let f = ap h e in omega (arith, sum_by-cons h x xs, sum_by-cons h y ys)
 
--- and of a sum that is no more
+-- `sum_rest`, where the one sum is no more than the other
 pub sum_rest_le : (h : Plain → ℕ) (x y : Plain) (xs ys : List Plain) → x ≡ y → sum_by h (x ∷ xs) ≤ sum_by h (y ∷ ys) → sum_by h xs ≤ sum_by h ys
 sum_rest_le h x y xs ys e less = let f = ap h e in omega (arith, sum_by-cons h x xs, sum_by-cons h y ys)
 
+-- each item counts 1
 pub sum_ones : {X : Type 0} (xs : List X) → sum_by (λ _. 1) xs ≡ length xs
 sum_ones [] = refl
 sum_ones (x ∷ xs) = omega (arith, sum_by-cons (λ _. 1) x xs, sum_ones xs)
 
--- where no member passes the test
+-- where no member passes the test, and those that fail it count nothing
 pub sum_unpicked : {S : Type 0} (f : S → ℕ) (t : S → Bool) (ss : List S) → ((j : ℕ) (u : S) → slice_get ss j ≡ Some u → t u ≡ false → f u ≡ 0)
     → count_by t ss ≡ 0 → sum_by f ss ≡ 0
 sum_unpicked f t [] zero_else none = refl
@@ -76,13 +77,13 @@ sum_picked f t (x ∷ xs) (suc i) s e zero_else one is =
     let here = zero_else 0 x refl out in
     let rest = sum_picked f t xs i s e (λ j u e'. zero_else (suc j) u e') (omega arith) is in omega (arith, sum_by-cons f x xs)
 
--- where each member has no more
+-- where each member has no more: std's `sum_by-le-sum_by`, of members alone
 pub sum_each_le : {S : Type 0} (f g : S → ℕ) (ss : List S) → ((j : ℕ) (u : S) → slice_get ss j ≡ Some u → f u ≤ g u) → sum_by f ss ≤ sum_by g ss
 sum_each_le f g [] each = omega arith
 sum_each_le f g (x ∷ xs) each = let here = each 0 x refl in let rest =
     sum_each_le f g xs (λ j u e. each (suc j) u e) in omega (arith, sum_by-cons f x xs, sum_by-cons g x xs)
 
--- where each has none
+-- where each member counts nothing
 pub sum_each_none : {S : Type 0} (f : S → ℕ) (ss : List S) → ((j : ℕ) (u : S) → slice_get ss j ≡ Some u → f u ≡ 0) → sum_by f ss ≡ 0
 sum_each_none f [] each = refl
 sum_each_none f (x ∷ xs) each = let here = each 0 x refl in let rest = sum_each_none f xs (λ j u e. each (suc j) u e) in omega (arith, sum_by-cons f x xs)

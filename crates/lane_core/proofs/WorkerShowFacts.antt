@@ -8,7 +8,7 @@ use Rattle.lane_core.specs.declared.event.Event.TheVariants.{Take, Post}
 use Rattle.lane_core.specs.declared.job.Plain.{Plain}
 use Rattle.lane_core.specs.Contents.{Contents, IsEnabled, ShowsState, Steps, contents}
 use Rattle.lane_core.specs.Machine.{State, post, step, take_job}
-use Rattle.lane_core.proofs.ResultFacts.{none_from, not_done, some_from}
+use Rattle.lane_core.proofs.ResultFacts.{none_by_test, not_done, some_from}
 use Rattle.lane_core.proofs.WorldShowsNext.{done, idle}
 
 -- the machine's worker and queue are the world's
@@ -37,7 +37,7 @@ take_empty c w at count = λ s r shows. idle c s (Take w) (takes c s w (Some Non
 -- a worker takes a job
 pub take_done : (c : Contents) (w : ℕ) (x : Plain) (jobs : List Plain) → slice_get c.workers w ≡ Some None → c.jobs ≡ x ∷ jobs
     → Steps c (Take w) true (contents c.year c.lanes jobs (set c.workers w (Some x)) c.results c.buffer)
-take_done c w x jobs at is = λ s r shows. done c _ s _ (Take w)
+take_done c w x jobs at is = λ s r shows. done _ s _ (Take w)
     (takes c s w (Some None) (x ∷ jobs) shows at is)
     record {
       year = shows.year;
@@ -57,7 +57,7 @@ post_free c w at = λ s r shows. idle c s (Post w) (posts c s w (Some None) show
 -- a worker posts a result
 pub post_done : (c : Contents) (w : ℕ) (x : Plain) → slice_get c.workers w ≡ Some (Some x)
     → Steps c (Post w) true (contents c.year c.lanes c.jobs (set c.workers w None) (c.results ++ x ∷ []) c.buffer)
-post_done c w x at = λ s r shows. done c _ s _ (Post w)
+post_done c w x at = λ s r shows. done _ s _ (Post w)
     (posts c s w (Some (Some x)) shows at)
     record {
       year = shows.year;
@@ -70,14 +70,14 @@ post_done c w x at = λ s r shows. done c _ s _ (Post w)
       known = shows.known;
     }
 
--- the worker has one
+-- a worker that has a job may post
 pub post_enabled : (c : Contents) (w : ℕ) (x : Plain) → slice_get c.workers w ≡ Some (Some x) → IsEnabled c (Post w)
 post_enabled c w x at = λ s r shows. (post_done c w x at s r shows).0
 
 -- what a look at a worker's place says: it has no job, or one
 pub free_at : (workers : List (Option Plain)) (w : ℕ) (x : Option Plain) → w < length workers → x ≡ get_or workers w x → is_some x ≡ false
     → slice_get workers w ≡ Some None
-free_at workers w x less is none = slice_get_read workers (length workers) w x refl less is ∙ ap Some (none_from x none)
+free_at workers w x less is none = slice_get_read workers (length workers) w x refl less is ∙ ap Some (none_by_test x none)
 
 pub busy_at : (workers : List (Option Plain)) (w : ℕ) (x : Option Plain) → w < length workers → x ≡ get_or workers w x → is_some x ≡ true
     → (job : Plain) × (slice_get workers w ≡ Some (Some job))
@@ -86,7 +86,7 @@ busy_at workers w x less is some =
     (job.0, slice_get_read workers (length workers) w x refl less is ∙ ap Some job.1)
 
 -- one place read twice: a job that was there is there
-pub still_there : {P : Type 0} (workers : List (Option Plain)) (w : ℕ) (x y : Option Plain) → w < length workers → x ≡ get_or workers w x → y ≡ get_or workers w y
+pub same_at_place : {P : Type 0} (workers : List (Option Plain)) (w : ℕ) (x y : Option Plain) → w < length workers → x ≡ get_or workers w x → y ≡ get_or workers w y
     → is_some x ≡ true → None ≡ y → P
-still_there workers w x y less first next some none =
+same_at_place workers w x y less first next some none =
     not_done (sym some ∙ ap (λ o. is_some o) (get_or_read workers w x less first y ∙ (sym next ∙ sym none)))

@@ -1,4 +1,6 @@
 -- A world shows the machine's next state: what all events share, collecting a result (`World::collect`), and a new world.
+-- `c` is what the world keeps before the event, and `s` is the state that it shows. Events of lanes are in LaneShowFacts and HandShowFacts, those of
+-- workers in WorkerShowFacts.
 use Rattle.std.proofs.Common.{◌≡◌, ℕ, ◌<◌, ◌||◌, not, nat_lt, Bool, true, false, zero, suc, List, [], ◌∷◌, ◌++◌, length, replicate, Some, None, refl, sym, ap, ◌∙◌, subst, arith}
 use Rattle.std.specs.List.{slice_get, count_by}
 use Rattle.std.specs.Option.{is_some}
@@ -24,19 +26,20 @@ use Rattle.lane_core.proofs.ListFacts.{map_replicate, get_or_zeros}
 use Rattle.lane_core.proofs.TicketFacts.{not_among, ticket_self}
 
 -- an event that is done, and one that is not
-pub done : (c d : Contents) (s t : State) (e : Event) → step s e ≡ Some t → ShowsState d t → (is_some (step s e) ≡ true) × ShowsState d (after s e)
-done c d s t e is shows = (ap (λ o. is_some o) is, subst (ShowsState d) (sym (ap (or_same s) is)) shows)
+pub done : (d : Contents) (s t : State) (e : Event) → step s e ≡ Some t → ShowsState d t → (is_some (step s e) ≡ true) × ShowsState d (after s e)
+done d s t e is shows = (ap (λ o. is_some o) is, subst (ShowsState d) (sym (ap (or_same s) is)) shows)
 
 pub idle : (c : Contents) (s : State) (e : Event) → step s e ≡ None → ShowsState c s → (is_some (step s e) ≡ false) × ShowsState c (after s e)
 idle c s e is shows = (ap (λ o. is_some o) is, subst (ShowsState c) (sym (ap (or_same s) is)) shows)
 
+-- and a world that shows a state shows one after it
 pub shown_after : (c d : Contents) (e : Event) (b : Bool) → IsShown c → Steps c e b d → IsShown d
 shown_after c d e b shown steps = (after shown.0 e, reached_more shown.0 e shown.1, (steps shown.0 shown.1 shown.2).1)
 
 -- the deliverer collects a result
 pub collect_done : (c : Contents) (x : Plain) (results : List Plain) (e : ReorderBuffer) → c.results ≡ x ∷ results → TakesIn c.buffer x e
     → Steps c Collect true (contents c.year c.lanes c.jobs c.workers results e)
-collect_done c x results e is taken = λ s r shows. done c _ s _ Collect (ap (collect s) (sym shows.results ∙ is))
+collect_done c x results e is taken = λ s r shows. done _ s _ Collect (ap (collect s) (sym shows.results ∙ is))
     record {
       year = shows.year;
       lanes = shows.lanes;
@@ -54,6 +57,7 @@ collect_done c x results e is taken = λ s r shows. done c _ s _ Collect (ap (co
           ∙ sym (list_any-append (is_ticket_of l k) s.waiting (x ∷ [])))));
     }
 
+-- a lane that has submitted something is there
 lane_there : (vs : List LaneState) (l k : ℕ) → k < length (of_lane [] (λ v. v.submitted) (slice_get vs l)) → l < length vs
 lane_there [] l k e = absurd (omega arith)
 lane_there (v ∷ vs) zero k e = omega arith
@@ -81,8 +85,8 @@ result_is_new c x results is shown =
     (false_from_once (nat_lt x.number (handed_of s x.lane)) handed) waits))
 
 -- the deliverer keeps as many lanes as there are
-pub count_kept : (c : Contents) → IsShown c → length c.buffer.nexts ≡ length c.lanes
-count_kept c shown =
+pub lane_count_kept : (c : Contents) → IsShown c → length c.buffer.nexts ≡ length c.lanes
+lane_count_kept c shown =
     let s = shown.0 in
     let shows = shown.2 in
     ap (λ (xs : List ℕ). length xs) shows.nexts ∙ (length-map s.lanes (λ (v : LaneState). v.handed)

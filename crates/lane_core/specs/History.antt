@@ -1,5 +1,5 @@
--- What a machine's events push on its queues and pop from them, when each is done, and what they leave as it is.
-use Rattle.std.specs.Prelude.{◌≡◌, ◌&&◌, ℕ, cond, not, nat_lt, true, is_some, List, [], ◌∷◌, ◌++◌, Option, None, Some, option_to_list, length, slice_get, take}
+-- What a machine's events push on its queues and pop from them, when each is done, and what they leave as it is: the laws are functions of src/laws.rt.
+use Rattle.std.specs.Prelude.{◌≡◌, ◌&&◌, ◌^◌, ℕ, cond, not, nat_lt, true, is_some, List, [], ◌∷◌, ◌++◌, Option, None, Some, option_to_list, length, slice_get, take}
 use Rattle.std.specs.List.{AllByRecursion}
 use Rattle.element_core.specs.Terms.{Terms}
 use Rattle.lane_core.specs.declared.event.Event.{Event}
@@ -10,16 +10,17 @@ use Rattle.lane_core.specs.Machine.{State, IsReached, after, handed_of, is_close
 use Rattle.lane_core.specs.Tickets.{is_among, numbered}
 use Rattle.lane_core.specs.Weights.{OneForOne}
 
--- these, if the event is done
+-- these items if the event is done, and else none
 abbrev pub if_done : State → Event → List Plain → List Plain
 if_done s e xs = cond (is_some (step s e)) xs []
 
--- what worker w holds
+-- what a worker holds: nothing if it has no job, and if there is no such worker
 abbrev pub held_by : Option (Option Plain) → List Plain
 held_by None = []
 held_by (Some o) = option_to_list o
 
--- what an event pushes on the job queue and pops from it
+-- What an event pushes on the job queue: `next_job` of `Machine`, if it is a `Submit`. Here and at the three that follow each event has its line, and
+-- one event's alone is not [].
 abbrev pub job_pushed : State → Event → List Plain
 job_pushed s (Submit l row) = if_done s (Submit l row) (plain_of l (issued_of s l) s.year row ∷ [])
 job_pushed s (Take w) = []
@@ -29,6 +30,7 @@ job_pushed s (Hand l) = []
 job_pushed s (Poll l) = []
 job_pushed s (Close l) = []
 
+-- what an event pops from the job queue
 abbrev pub job_popped : State → Event → List Plain
 job_popped s (Submit l row) = []
 job_popped s (Take w) = if_done s (Take w) (take 1 s.jobs)
@@ -38,7 +40,7 @@ job_popped s (Hand l) = []
 job_popped s (Poll l) = []
 job_popped s (Close l) = []
 
--- and on the result queue
+-- what an event pushes on the result queue
 abbrev pub result_pushed : State → Event → List Plain
 result_pushed s (Submit l row) = []
 result_pushed s (Take w) = []
@@ -48,6 +50,7 @@ result_pushed s (Hand l) = []
 result_pushed s (Poll l) = []
 result_pushed s (Close l) = []
 
+-- what an event pops from the result queue
 abbrev pub result_popped : State → Event → List Plain
 result_popped s (Submit l row) = []
 result_popped s (Take w) = []
@@ -57,7 +60,7 @@ result_popped s (Hand l) = []
 result_popped s (Poll l) = []
 result_popped s (Close l) = []
 
--- what the events together did, one after the other
+-- what events push or pop together, one after the other: `f` is one of the four
 abbrev pub all_of : (State → Event → List Plain) → State → List Event → List Plain
 all_of f s [] = []
 all_of f s (e ∷ es) = f s e ++ all_of f (after s e) es
@@ -73,10 +76,10 @@ QueuesKeep = (lanes workers : ℕ) (year : Terms) (es : List Event) →
     × Keeps (all_of result_pushed (start lanes workers year) es) (all_of result_popped (start lanes workers year) es)
     (run (start lanes workers year) es).results
 
--- each event is done exactly if its condition holds; `Machine` has the conditions too, and how many tickets a lane has at most
+-- each event is done exactly if its condition holds, in any state: these are the tests that the functions of `Machine` make, one for each event
 abbrev pub EventsAreDone : Type 0
 EventsAreDone = (s : State) (l w : ℕ) (row : List ℕ) →
-    (is_some (step s (Submit l row)) ≡ (is_some (slice_get s.lanes l) && (not (is_closed s l) && nat_lt (issued_of s l) 4294967296)))
+    (is_some (step s (Submit l row)) ≡ (is_some (slice_get s.lanes l) && (not (is_closed s l) && nat_lt (issued_of s l) (2 ^ 32))))
     × (is_some (step s (Take w)) ≡ (is_some (slice_get s.workers w) && (not (nat_lt 0 (length (held_by (slice_get s.workers w)))) && nat_lt 0 (length s.jobs))))
     × (is_some (step s (Post w)) ≡ nat_lt 0 (length (held_by (slice_get s.workers w))))
     × (is_some (step s Collect) ≡ nat_lt 0 (length s.results))

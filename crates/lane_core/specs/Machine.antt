@@ -23,9 +23,11 @@ pub record State : Type 0 where
   pub results : List Plain
   pub waiting : List Plain
 
+-- the lane with these fields
 abbrev pub lane_state : List Plain → Bool → ℕ → ℕ → LaneState
 lane_state submitted closed polled handed = record { submitted = submitted; closed = closed; polled = polled; handed = handed }
 
+-- the machine with these fields
 abbrev pub state : Terms → List LaneState → List Plain → List (Option Plain) → List Plain → List Plain → State
 state year lanes jobs workers results waiting = record { year = year; lanes = lanes; jobs = jobs; workers = workers; results = results; waiting = waiting }
 
@@ -42,7 +44,8 @@ without l k (x ∷ xs) = cond (is_ticket_of l k x) xs (x ∷ without l k xs)
 abbrev pub next_job : State → ℕ → LaneState → List ℕ → Plain
 next_job s l v row = plain_of l (length v.submitted) s.year row
 
--- each event by what it finds: the state after it, or none if it is disabled
+-- The seven functions that follow: each event by what it finds, which `step` looks up. They give the state after it, or none if it is disabled. A lane has
+-- 2 ^ 32 tickets at most, since `Ticket` has a number of 32 bits.
 abbrev pub submit : State → ℕ → List ℕ → Option LaneState → Option State
 submit s l row None = None
 submit s l row (Some v) = cond (not v.closed && nat_lt (length v.submitted) (2 ^ 32))
@@ -84,6 +87,7 @@ close s l (Some v) = cond (not v.closed)
     (Some (state s.year (slice_set s.lanes l (lane_state v.submitted true v.polled v.handed)) s.jobs s.workers s.results s.waiting))
     None
 
+-- the state after an event, or none if it is disabled; src/event.rt says what each event is
 abbrev pub step : State → Event → Option State
 step s (Submit l row) = submit s l row (slice_get s.lanes l)
 step s (Take w) = take_job s w (slice_get s.workers w) s.jobs
@@ -98,10 +102,11 @@ abbrev pub or_same : State → Option State → State
 or_same s None = s
 or_same s (Some t) = t
 
--- the state after one event, and after several
+-- the state after one event
 abbrev pub after : State → Event → State
 after s e = or_same s (step s e)
 
+-- the state after several
 abbrev pub run : State → List Event → State
 run s [] = s
 run s (e ∷ es) = run (after s e) es
@@ -115,22 +120,24 @@ abbrev pub of_lane : {X : Type 0} → X → (LaneState → X) → Option LaneSta
 of_lane d f None = d
 of_lane d f (Some v) = f v
 
--- what lane l has submitted, and how much
+-- what lane l has submitted
 abbrev pub submitted_by : State → ℕ → List Plain
 submitted_by s l = of_lane [] (λ v. v.submitted) (slice_get s.lanes l)
 
+-- how many tickets lane l has issued: one for each row
 abbrev pub issued_of : State → ℕ → ℕ
 issued_of s l = length (submitted_by s l)
 
 abbrev pub is_closed : State → ℕ → Bool
 is_closed s l = of_lane false (λ v. v.closed) (slice_get s.lanes l)
 
+-- how many deliveries lane l was handed (`handed_of`), and how many of them it has polled (`polled_of`)
 abbrev pub handed_of : State → ℕ → ℕ
 handed_of s l = of_lane 0 (λ v. v.handed) (slice_get s.lanes l)
 
 abbrev pub polled_of : State → ℕ → ℕ
 polled_of s l = of_lane 0 (λ v. v.polled) (slice_get s.lanes l)
 
--- what it has polled: the first of what it has submitted
+-- what lane l has polled: the first of what it has submitted
 abbrev pub polled_by : State → ℕ → List Plain
 polled_by s l = take (polled_of s l) (submitted_by s l)

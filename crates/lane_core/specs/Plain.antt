@@ -1,4 +1,4 @@
--- What a job and a delivery are, as numbers and lists of numbers.
+-- A `Plain` (src/job.rt), what contracts see of a job and of a delivery, by its fields.
 use Rattle.std.specs.Prelude.{ℕ, List}
 use Rattle.element_core.specs.Terms.{Terms}
 use Rattle.lane_core.specs.declared.job.Plain.{Plain}

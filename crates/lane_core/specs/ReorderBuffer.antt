@@ -13,6 +13,7 @@ pub record ReorderBuffer : Type 0 where
   pub waiting : List Plain
   pub known : List Ticket
 
+-- the buffer with these fields
 abbrev pub buffer : List ℕ → List Plain → List Ticket → ReorderBuffer
 buffer nexts waiting known = record { nexts = nexts; waiting = waiting; known = known }
 
@@ -36,7 +37,7 @@ is_known l k tickets = list_any (λ t. (t.lane == l) && (t.number == k)) tickets
 abbrev pub was_taken : ReorderBuffer → ℕ → ℕ → Bool
 was_taken d l k = nat_lt k (next_of d l) || is_known l k d.known
 
--- whether its lane is there and its number was not taken in
+-- whether its lane is there and its number was not taken in; `sift` of Settling asks the same of a list of what was taken in
 abbrev pub is_new : ReorderBuffer → Plain → Bool
 is_new d x = nat_lt x.lane (lanes_of d) && not (was_taken d x.lane x.number)
 
@@ -47,7 +48,7 @@ pub record TakesIn (d : ReorderBuffer) (x : Plain) (e : ReorderBuffer) : Type 0 
   pub waiting : (h : Plain → ℕ) → sum_by h e.waiting ≡ sum_by h d.waiting + h x
   pub known : (l k : ℕ) → was_taken e l k ≡ (was_taken d l k || is_ticket_of l k x)
 
--- x comes back, as a stranger exactly if it is not new; to its lane's next number no memory is refused
+-- x comes back, as a stranger exactly if it is not new; no memory is refused to it if it is its lane's next number
 abbrev pub ComesBack : ReorderBuffer → Plain → TakeFault → Type 0
 ComesBack d x (Stranger y) = (is_new d x ≡ false) × (y ≡ x)
 ComesBack d x (NoMemory y) = (is_new d x ≡ true) × (y ≡ x) × (x.number ≡ next_of d x.lane → ⊥)
@@ -67,7 +68,7 @@ pub record Leaves (d : ReorderBuffer) (x : Plain) (e : ReorderBuffer) : Type 0 w
   pub waiting : (h : Plain → ℕ) → sum_by h d.waiting ≡ sum_by h e.waiting + h x
   pub known : (l k : ℕ) → was_taken e l k ≡ was_taken d l k
 
--- lane l was given x, its next number
+-- lane l was given x, its next number: `lane` and `number` are those of `WaitsAsNext`
 pub record GivesNext (d : ReorderBuffer) (l : ℕ) (x : Plain) (e : ReorderBuffer) : Type 0 where
   pub lane : x.lane ≡ l
   pub number : x.number ≡ next_of d l

@@ -1,11 +1,11 @@
--- Several lanes whose rows went from place to place: what can be said of their lists, whoever carried them.
+-- What is so of the lists of several lanes, whoever carried their rows from place to place: the laws are functions of src/laws.rt.
 use Rattle.std.specs.Prelude.{◌≡◌, ◌==◌, ◌&&◌, ◌+◌, ◌<◌, ◌≤◌, ℕ, suc, Bool, true, not, nat_lt, cond, List, [], ◌∷◌, ◌++◌, Some, length, slice_get, take}
 use Rattle.std.specs.List.{count_by, fold, list_all, sum_by}
 use Rattle.lane_core.specs.declared.job.Plain.{Plain}
 use Rattle.lane_core.specs.Tickets.{is_among, numbered}
 use Rattle.lane_core.specs.Weights.{OneForOne}
 
--- one more delivery for a deliverer of n lanes: it is set aside if its lane is not there or its ticket has come before
+-- one more delivery for a deliverer of n lanes: it is set aside if its lane is not there or its ticket has come before (`is_new` of ReorderBuffer)
 abbrev pub sift : ℕ → List Plain → Plain → List Plain
 sift n taken x = cond (nat_lt x.lane n && not (is_among x.lane x.number taken)) (taken ++ x ∷ []) taken
 
@@ -32,15 +32,15 @@ AreNumbered accounts = (i : ℕ) (a : Account) → slice_get accounts i ≡ Some
 abbrev pub EachLaneOnce : List Account → Type 0
 EachLaneOnce accounts = (l : ℕ) → count_by (λ a. a.lane == l) accounts ≤ 1
 
--- a lane's numbers in order are all kept
+-- a lane's numbers in order, from any number on, are all kept
 abbrev pub KeptWhole : Type 0
 KeptWhole = (lane n : ℕ) (xs : List Plain) → numbered lane n xs ≡ true → kept lane n xs ≡ xs
 
--- two lists of one lane's numbers with the same items are one list
+-- two lists of one lane's numbers in order, from one number on, are one list if they have the same items
 abbrev pub SameLists : Type 0
 SameLists = (lane n : ℕ) (xs ys : List Plain) → numbered lane n xs ≡ true → numbered lane n ys ≡ true → ((h : Plain → ℕ) → sum_by h xs ≡ sum_by h ys) → xs ≡ ys
 
--- if the lanes together received no more than they submitted, each its own numbers in order, each received the first of its own rows
+-- if the lanes together received no more than they submitted, each its own numbers from 0 on in order, each received the first of its own rows
 abbrev pub ReceivedFirst : Type 0
 ReceivedFirst =
     (accounts : List Account)
@@ -50,7 +50,9 @@ ReceivedFirst =
     → ((h : Plain → ℕ) → sum_by (λ a. sum_by h a.received) accounts ≤ sum_by (λ a. sum_by h a.submitted) accounts)
     → (i : ℕ) (a : Account) → slice_get accounts i ≡ Some a → take (length a.received) a.submitted ≡ a.received
 
--- if both queues are one for one and nothing was lost on the way, nothing was set aside, and all that was submitted is in some place
+-- If queues, workers and deliverer lose nothing, nothing was set aside, and all that was submitted is in some place. Workers took `taken` from the job
+-- queue and queued `posted`, of which the deliverer of n lanes took `collected`. In the places there are now: `jobs` and `results` in the queues, `hands`
+-- with workers, `hand` in the deliverer's hand, `waiting` in its buffer, and by weight `sent` with the lanes.
 abbrev pub AllFound : Type 0
 AllFound =
     (n : ℕ) (accounts : List Account) (taken posted collected jobs hands results waiting hand : List Plain) (sent : (Plain → ℕ) → ℕ)
@@ -78,7 +80,7 @@ pub record Claim : Type 0 where
   pub polled : List Plain
   pub given : List Plain
 
--- its lists are its numbers in order, and what it is given is its own, by rising number
+-- what the lane has submitted and polled are its numbers from 0 on in order; what it is given is its own, by rising number
 pub record IsClaim (c : Claim) : Type 0 where
   pub submitted : numbered c.lane 0 c.submitted ≡ true
   pub polled : numbered c.lane 0 c.polled ≡ true
@@ -89,7 +91,8 @@ pub record IsClaim (c : Claim) : Type 0 where
 abbrev pub GivesDue : Claim → List Plain → Type 0
 GivesDue c dropped = length c.polled + length c.given < length c.submitted → count_by (λ x. x.lane == c.lane) dropped ≡ 0
 
--- if all that the lanes had not polled was found, and each was given of it up to its due, each was given what it had not polled
+-- if all that the lanes had not polled was found, and each was given of it up to its due, each was given what it had not polled;
+-- that no lane comes twice is asked of claims as `EachLaneOnce` does of accounts
 abbrev pub ClaimsSettle : Type 0
 ClaimsSettle =
     (claims : List Claim) (found dropped : List Plain)

@@ -11,11 +11,11 @@ is_ticket_of l k x = (x.lane == l) && (x.number == k)
 abbrev pub is_among : ℕ → ℕ → List Plain → Bool
 is_among l k xs = list_any (is_ticket_of l k) xs
 
--- whether a worker holds it
+-- whether the job that one of these workers holds is lane l's number k
 abbrev pub is_held_by : ℕ → ℕ → List (Option Plain) → Bool
 is_held_by l k workers = list_any (λ o. is_among l k (option_to_list o)) workers
 
--- they are the lane's numbers from n on, in order
+-- whether these are the lane's numbers from n on, in order
 abbrev pub numbered : ℕ → ℕ → List Plain → Bool
 numbered lane n [] = true
 numbered lane n (x ∷ xs) = (x.lane == lane) && ((x.number == n) && numbered lane (suc n) xs)

@@ -1,4 +1,4 @@
--- What counts once, and lists with the same items, each as often: by every weight of an item they have the same sum.
+-- Counting: a test as 1 or 0, and lists with the same items, each as often. For every weight of an item such lists have the same sum.
 use Rattle.std.specs.Prelude.{◌≡◌, ℕ, ◌+◌, Bool, cond, List}
 use Rattle.std.specs.List.{sum_by}
 

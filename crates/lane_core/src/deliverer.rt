@@ -1,5 +1,5 @@
 //! Hands each lane its deliveries by number, whatever order they come in.
-ghost use Rattle.std.specs.Prelude.{◌≡◌, ◌≢◌, ◌<◌, ◌≤◌, ◌↔◌, ◌^◌, [], replicate, true, false, IsSome, IfErr, IfOk, IfNone, IfSome, OnErr, OnOk};
+ghost use Rattle.std.specs.Prelude.{◌≡◌, ◌<◌, ◌≤◌, ◌↔◌, [], replicate, true, false, IsSome, IfErr, IfOk, IfNone, IfSome, OnErr, OnOk};
 ghost use Rattle.lane_core.specs.declared.next_slot.NextSlot.TheVariants.{Missing};
 ghost use Rattle.lane_core.specs.inner.NextSlots.{Advances, AreIndexed};
 ghost use Rattle.lane_core.specs.ReorderBuffer.{lanes_of, new_buffer, was_taken, has_next, TakesIn, ComesBack, WaitsAsNext, GivesNext, GivesAny};
@@ -16,10 +16,11 @@ use std::marker::Model;
 /// Keeps deliveries until their lane is given them, each lane by number from 0.
 ///
 /// Its memory goes with the lanes, with what waits and with what was taken out of turn, not with what
-/// has passed through. A delivery that comes as its lane's next number is put nowhere else; any other
-/// call looks up at most two tickets.
+/// has passed through. A call searches `later` and `known` for one ticket at most; `take_any` goes through the slots
+/// if `later` is empty.
 #[derive(Debug, Drop)]
 pub struct Deliverer {
+    /// Each lane's next number. A `u64`, since it is 2 ^ 32 after a lane's last number.
     nexts: Vec<u64>,
     /// What there is of each lane's next number.
     slots: Vec<NextSlot>,
@@ -41,7 +42,8 @@ impl Model for Deliverer {
     ghost invariant = { λ d. AreKept d.nexts.items d.slots.items d.later.entries d.known.keys };
 }
 
-/// Slots of lanes whose first number was not taken in.
+/// Slots of lanes whose first number was not taken in; `idle_workers` and `open_lanes` of world.rt
+/// are loops of the same form.
 fn missing_slots(alloc: Global, count: u16) -> Result<Vec<NextSlot>, AllocError>
     ensures { IfOk result (λ slots. slots.items ≡ replicate count Missing) }
 {
@@ -52,7 +54,7 @@ fn missing_slots(alloc: Global, count: u16) -> Result<Vec<NextSlot>, AllocError>
     Ok(slots)
 }
 
-/// What there is of the lane's number `next`, which is its next from now on and no later one.
+/// What there is of the lane's number `next`. It is the lane's next from now on, so it leaves the later numbers.
 fn slot_of(
     later: &mut BTreeMap<Ticket, Delivery>,
     known: &mut BTreeSet<Ticket>,
@@ -63,6 +65,7 @@ fn slot_of(
     ensures { Advances lane next later.old.entries known.old.keys later.new.entries known.new.keys result }
 {
     let Ok(number) = u32::try_from(next) else {
+        // The lane has no more tickets: `next` is 2 ^ 32.
         return NextSlot::Missing;
     };
     let ticket = Ticket { lane, number };
@@ -76,7 +79,8 @@ fn slot_of(
 }
 
 impl Deliverer {
-    /// A deliverer of these lanes; each lane's next number is 0.
+    /// A deliverer of this many lanes; each lane's next number is 0. There are no more than 256 lanes, since
+    /// a ticket names its lane by a `u8`.
     pub fn new(alloc: Global, lanes: u16) -> Result<Deliverer, NoMemory>
         requires { lanes ≤ 256 }
         ensures { IfOk result (λ d. d ≡ new_buffer lanes) }
@@ -99,14 +103,14 @@ impl Deliverer {
         let given = number < self.nexts[lane];
         let is_next = number == self.nexts[lane];
         let has_come = !matches!(self.slots[lane], NextSlot::Missing);
+        // `|` and `&` do not branch: the contract is proved as one equation.
         given | (is_next & has_come) | self.known.contains(&ticket)
     }
 
     /// Keeps the delivery until its lane is given it.
     ///
-    /// A delivery of no such lane, or of a number that was taken in before, is a `Stranger`; else
-    /// only memory can be refused, and that not to a lane's next number, which needs none. Either way
-    /// nothing changes, and it comes back.
+    /// If the delivery is refused, it comes back in the fault and nothing changes. A `Stranger` is refused
+    /// before memory is asked for; a lane's next number needs no memory.
     pub fn take_in(&mut self, delivery: Delivery) -> Result<(), TakeFault>
         ensures taken { OnOk result (TakesIn self.old delivery self.new) }
         ensures refused { IfErr result (ComesBack self.old delivery) }
@@ -134,7 +138,7 @@ impl Deliverer {
         }
     }
 
-    /// The lane's next number, if it waits.
+    /// The delivery of the lane's next number, if it waits.
     pub fn next(&self, lane: u8) -> Option<&Delivery>
         requires { lane < lanes_of self.now }
         ensures some { IfSome result (λ x. WaitsAsNext self.now lane x.now) }
@@ -158,7 +162,7 @@ impl Deliverer {
         let next = self.nexts[index] + 1;
         self.nexts[index] = next;
         if self.known.is_empty() {
-            // So it is mostly: there are no later numbers.
+            // The common case: no later number was taken in, so the slot stays `Missing`.
             return Some(delivery);
         }
         self.slots[index] = slot_of(&mut self.later, &mut self.known, lane, next);
@@ -166,7 +170,7 @@ impl Deliverer {
     }
 
     /// Takes out one that waits, of any lane; none if nothing waits. Its number still counts as
-    /// taken in, and the lane is not given it.
+    /// taken in, and its lane is given neither it nor a number after it.
     pub fn take_any(&mut self) -> Option<Delivery>
         ensures some { IfSome result (λ x. GivesAny self.old x self.new) }
         ensures none { IfNone result (((self.old).waiting ≡ []) × (self.new ≡ self.old)) }

@@ -10,13 +10,13 @@ use scan_core::{Answer, Runs, push_row, read_row};
 use std::alloc::AllocError;
 use std::marker::Model;
 
-/// A row under its ticket that was read, and keeps what was found in it.
+/// A job whose row was read: the row keeps what was found in it.
 #[derive(Debug, Drop)]
 pub struct Delivery {
     job: Job,
 }
 
-// Its size in bytes is paid at the queue of results, at its lane's place and at the ring.
+// Queues, the deliverer's slots and the hub's rings hold deliveries by value: each byte more is paid there.
 const _: () = prove!(size_of::<Delivery>() == 24);
 
 impl Model for Delivery {
@@ -28,7 +28,7 @@ impl Model for Delivery {
 }
 
 impl Delivery {
-    /// The row's ticket.
+    /// The ticket of the job.
     pub fn ticket(&self) -> Ticket
         ensures lane { result.lane ≡ self.now.lane }
         ensures number { result.number ≡ self.now.number }
@@ -36,36 +36,36 @@ impl Delivery {
         self.job.ticket
     }
 
-    /// The row.
+    /// The row of the job, which `decode` has read.
     pub fn row(&self) -> &Runs
         ensures { result.now ≡ self.now.widths }
     {
         &self.job.row
     }
 
-    /// The row alone.
+    /// The row of the job, whose memory can be used again.
     pub fn into_row(self) -> Runs
         ensures { result ≡ self.widths }
     {
         self.job.row
     }
 
-    /// The reference year of its dates.
+    /// The reference year of the job.
     pub fn year(&self) -> Year
         ensures { result ≡ self.now.year }
     {
         self.job.year
     }
 
-    /// The answer to the row by the reference year: a delivery has no other. Its elements are made here, of the
-    /// symbol that was found.
+    /// The answer to the row by the reference year; there is only one. The elements of the answer are made here, of
+    /// what `decode` found.
     pub fn answer(&self) -> Answer
         ensures { IsAnswer self.now.widths self.now.year result }
     {
         read_row(&self.job.row, self.job.year)
     }
 
-    /// Appends the answer to a text, with its elements in a form. No list of elements is made.
+    /// Appends what `answer` gives to a text, with its elements in a form. No list of elements is made.
     pub fn push_answer(&self, form: Form, text: &mut String) -> Result<(), AllocError>
         ensures { OnOk result ((answer : Answer) × IsAnswer self.now.widths self.now.year answer
             × (string_bytes text.new ≡ string_bytes text.old ++ said form answer)) }

@@ -2,7 +2,7 @@
 
 use scan_core::Runs;
 
-/// A step of lanes, workers and the deliverer.
+/// A step of lanes, workers and the deliverer: a `u8` is a lane, a `u32` a worker.
 #[derive(Debug, Drop)]
 pub enum Event {
     /// The lane submits a row, which is queued under the lane's next ticket.

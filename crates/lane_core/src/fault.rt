@@ -1,4 +1,4 @@
-//! Why a delivery is not taken in.
+//! The faults of `Deliverer::take_in`.
 ghost use Rattle.std.specs.Prelude.{Some, ◌≡◌};
 ghost use Rattle.digits_core.specs.Refusals.{refusal_text};
 ghost use Rattle.lane_core.specs.Faults.{take_fault_text};
@@ -7,17 +7,17 @@ use crate::delivery::Delivery;
 use digits_core::{Refusal, RefusalKind};
 use std::fmt;
 
-/// Why a delivery is not taken in. It is given back.
+/// Why a delivery is not taken in, and the delivery, which is given back.
 #[derive(Debug, Drop)]
 pub enum TakeFault {
-    /// There is no such lane, or its number was taken in before.
+    /// Its lane is not there, or its number was taken in before.
     Stranger(Delivery),
     /// Memory to keep it was refused.
     NoMemory(Delivery),
 }
 
 impl TakeFault {
-    /// The refusal that an output line reports.
+    /// The fault as a refusal, which has no place.
     pub fn refusal(&self) -> Refusal
         ensures { refusal_text result.kind result.place ≡ take_fault_text self.now }
     {

@@ -1,4 +1,4 @@
-//! A row on its way to be read.
+//! A row on its way to be read, and `Plain`, as which contracts see it before and after.
 
 use crate::ticket::Ticket;
 use element_core::Year;
@@ -12,9 +12,9 @@ pub struct Plain {
     pub lane: u8,
     /// The ticket's number.
     pub number: u32,
-    /// What it is read by.
+    /// The reference year.
     pub year: Year,
-    /// The row's widths in dots.
+    /// The row's widths in dots. To contracts a `LinkedList` is a plain list.
     pub widths: LinkedList<u16>,
 }
 

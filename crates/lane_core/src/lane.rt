@@ -2,12 +2,12 @@
 
 use crate::delivery::Delivery;
 
-/// What a world keeps of a lane.
+/// What a world keeps of a lane; contracts see it as `LaneContents` of specs/Contents.antt.
 #[derive(Debug, Drop)]
 pub(crate) struct Lane {
     /// Whether it submits no more.
     pub(crate) closed: bool,
-    /// How many tickets it has issued.
+    /// The number of its next ticket. A `u64`, since it is 2 ^ 32 after the last one.
     pub(crate) issued: u64,
     /// The deliveries that it was handed, by number.
     pub(crate) handed: Vec<Delivery>,

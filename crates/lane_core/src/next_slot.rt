@@ -1,4 +1,4 @@
-//! A lane's next number.
+//! The slot that a deliverer has for each lane's next number.
 ghost use Rattle.std.specs.Prelude.{◌≡◌, [], false, length, IfNone, IfSome};
 ghost use Rattle.lane_core.specs.inner.NextSlots.{TakesSlot, is_here};
 ghost use Rattle.lane_core.specs.NextSlots.{waiting_at};
@@ -7,7 +7,7 @@ ghost use Rattle.lane_core.specs.declared.next_slot.NextSlot.TheVariants.{Here};
 use crate::delivery::Delivery;
 use std::mem;
 
-/// What a deliverer has of a lane's next number.
+/// Whether a lane's next number was taken in, and its delivery as long as it waits.
 #[derive(Debug, Drop)]
 pub(crate) enum NextSlot {
     /// It was not taken in.

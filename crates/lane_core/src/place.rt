@@ -1,4 +1,4 @@
-//! Where a ticket is.
+//! The places where an issued ticket can be; `World::place` says in which it is.
 
 /// Where an issued ticket is.
 #[derive(Clone, Copy, Debug, PartialEq, Eq)]
@@ -11,7 +11,7 @@ pub enum Place {
     ResultQueue,
     /// It waits at the deliverer.
     Waiting,
-    /// Its lane was given it.
+    /// Its lane was given it and has not taken it.
     Outbox,
     /// Its lane has taken it.
     Polled,

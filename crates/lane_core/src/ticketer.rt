@@ -6,6 +6,9 @@ use crate::ticket::Ticket;
 use std::marker::Model;
 
 /// Issues a lane's tickets, by number from 0, each once.
+///
+/// It is for programs that number the rows themselves. `Hub::submit` and `World::submit` number a row only if the queue
+/// takes it, which `issue` cannot.
 #[derive(Debug, Drop)]
 pub struct Ticketer {
     lane: u8,

@@ -19,7 +19,8 @@ mod places;
 
 /// Lanes that submit rows and poll deliveries, workers, one deliverer, and queues without bound.
 ///
-/// Nothing runs by itself: each `step` is one event.
+/// Nothing runs by itself: each `step` is one event of the machine (specs/Machine.antt). In a `Hub` of
+/// hub_core lanes, workers and the deliverer may run on threads, and the queues have a limit.
 #[derive(Debug, Drop)]
 pub struct World {
     year: Year,
@@ -43,7 +44,7 @@ impl Model for World {
     ghost invariant = { HoldsShown };
 }
 
-/// Lanes that have done nothing yet.
+/// Lanes that have done nothing yet; made as `missing_slots` of deliverer.rt is.
 fn open_lanes(alloc: Global, count: u16) -> Result<Vec<Lane>, AllocError>
     ensures { IfOk result (λ lanes. map lane_held lanes.items ≡ replicate count (lane_contents false 0 [] 0)) }
 {
@@ -59,7 +60,7 @@ fn open_lanes(alloc: Global, count: u16) -> Result<Vec<Lane>, AllocError>
     Ok(lanes)
 }
 
-/// Workers with no job.
+/// Workers with no job; made as `missing_slots` of deliverer.rt is.
 fn idle_workers(alloc: Global, count: u32) -> Result<Vec<Option<Job>>, AllocError>
     ensures { IfOk result (λ workers. workers.items ≡ replicate count None) }
 {
@@ -71,8 +72,8 @@ fn idle_workers(alloc: Global, count: u32) -> Result<Vec<Option<Job>>, AllocErro
 }
 
 impl World {
-    /// A world of these lanes and workers, in which nothing has happened; dates are read by the
-    /// reference year.
+    /// A world of this many lanes and workers, in which nothing has happened; dates are read by the
+    /// reference year. `Deliverer::new` says why there are no more than 256 lanes.
     pub fn new(alloc: Global, lanes: u16, workers: u32, year: Year) -> Result<World, NoMemory>
         requires { lanes ≤ 256 }
         ensures shows { IfOk result (λ world. ShowsState world (start lanes workers year)) }
@@ -99,7 +100,7 @@ impl World {
         &lane.handed[..lane.polled]
     }
 
-    /// How many tickets the lane has issued: its numbers are those below.
+    /// How many tickets the lane has issued, which is the number of its next one.
     pub fn issued(&self, lane: u8) -> u64
         requires { lane < length self.now.lanes }
         ensures { HoldsOfShown self.now (λ s. result ≡ issued_of s lane) }

@@ -1,13 +1,13 @@
 //! The memory of rows, which is used again.
-ghost use Rattle.std.specs.Prelude.{◌≡◌, ◌≤◌, ◌+◌, []};
+ghost use Rattle.std.specs.Prelude.{IfOk, ◌≡◌, ◌≤◌, ◌+◌, []};
 
 use crate::runs::{Kept, Runs};
-use std::alloc::Global;
+use std::alloc::{AllocError, Global};
 use std::marker::Model;
 use std::mem;
 
-/// A pool keeps the memory of this many rows at most.
-const MOST_ROWS: usize = 256;
+/// A pool keeps the memory of this many rows at most. `live` answers some 450 rows at a time.
+const MOST_ROWS: usize = 1_024;
 
 /// The memory of a row is kept if it has room for this many widths at most: most rows have fewer.
 const MANY_WIDTHS: usize = 1_024;
@@ -15,7 +15,7 @@ const MANY_WIDTHS: usize = 1_024;
 /// The memory of rows that were put back, for the rows that come: a program that reads one row after another need not
 /// allocate memory for each.
 ///
-/// Its value is the number of rows whose memory it keeps, at most 256. None has room for more than 1,024 widths.
+/// Its value is the number of rows whose memory it keeps, at most 1,024. None has room for more than 1,024 widths.
 #[derive(Debug, Drop)]
 pub struct RowPool {
     pub(crate) alloc: Global,
@@ -23,18 +23,28 @@ pub struct RowPool {
 }
 
 impl Model for RowPool {
-    ghost use Rattle.std.specs.Prelude.{ℕ, vec_len, ◌≤◌};
+    ghost use Rattle.std.specs.Prelude.{All, ℕ, vec_capacity, vec_len, ◌≤◌};
 
     ghost Value = { ℕ };
 
     ghost view = { λ pool. vec_len pool.rows };
 
-    ghost invariant = { λ pool. vec_len pool.rows ≤ 256 };
+    ghost invariant = { λ pool. (vec_len pool.rows ≤ 1024) × All (λ kept. vec_capacity kept.value.widths ≤ 1024) pool.rows.items };
 }
 
 impl RowPool {
-    /// A pool without any memory.
-    pub fn new(alloc: Global) -> RowPool
+    /// An empty pool with room for all rows that it may keep.
+    pub fn new(alloc: Global) -> Result<RowPool, AllocError>
+        ensures { IfOk result (λ pool. pool ≡ 0) }
+    {
+        Ok(RowPool {
+            alloc,
+            rows: Vec::with_capacity(alloc, MOST_ROWS)?,
+        })
+    }
+
+    /// A pool without room, which keeps no row.
+    pub fn none(alloc: Global) -> RowPool
         ensures { result ≡ 0 }
     {
         RowPool {
@@ -43,8 +53,8 @@ impl RowPool {
         }
     }
 
-    /// A list without widths, for the widths of the next row. It has the memory of a row that was put back, if the pool
-    /// keeps one.
+    /// An empty list for the widths of the next row. It may have the memory of a row that was put back. The call
+    /// allocates nothing.
     pub fn take_widths(&mut self) -> Vec<u16>
         ensures empty { result.items ≡ [] }
         ensures same { self.new ≡ self.old }
@@ -60,16 +70,18 @@ impl RowPool {
         }
     }
 
-    /// Keeps the memory of a row that is no longer used, unless it is large or the pool keeps enough.
+    /// Keeps the memory of a row that is no longer used, unless the row is large or the pool is full. The call allocates
+    /// nothing.
     pub fn put_back(&mut self, row: Runs)
         ensures more { self.old ≤ self.new }
         ensures one { self.new ≤ self.old + 1 }
-        ensures few { self.new ≤ 256 }
+        ensures few { self.new ≤ 1024 }
     {
         let kept = row.kept;
-        if self.rows.len() < MOST_ROWS && kept.widths.capacity() <= MANY_WIDTHS {
-            // If memory is refused, this row's is freed.
-            let _refused = self.rows.push(kept);
+        if self.rows.len() < self.rows.capacity().min(MOST_ROWS)
+            && kept.widths.capacity() <= MANY_WIDTHS
+        {
+            self.rows.push_reserved(kept);
         }
     }
 }

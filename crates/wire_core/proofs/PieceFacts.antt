@@ -1,6 +1,5 @@
 -- The lines that were taken of an input are its pieces between line feeds: the law `lines_are_pieces`.
-use Rattle.std.proofs.Common.{All, Bool, List, None, Some, [], ap, append-nil, append_assoc, arith, cond, false, get_or, get_or-take, length, length-append, length-drop, length-take, nat_eq, nat_lt, refl, subst, sym, true, ℕ, ⊎_elim, ◌&&◌, ◌++◌, ◌+◌, ◌<◌, ◌||◌, ◌∙◌, ◌∷◌, ◌≡◌, ◌≤◌}
-use Rattle.std.proofs.Common.{inl, inr}
+use Rattle.std.proofs.Common.{All, Bool, List, None, Some, [], ap, append-nil, append_assoc, arith, cond, false, get_or, get_or-take, inl, inr, length, length-append, length-drop, length-take, nat_eq, nat_lt, refl, subst, sym, true, ℕ, ⊎_elim, ◌&&◌, ◌++◌, ◌+◌, ◌<◌, ◌||◌, ◌∙◌, ◌∷◌, ◌≡◌, ◌≤◌}
 use Rattle.std.specs.List.{after_first, before_first, position_or_len}
 use Rattle.std.proofs.lemmas.Bool.{and_parts, cases_Bool, eqb-true, ltb-false, ltb-true, or_cases, or_parts}
 use Rattle.std.proofs.lemmas.List.{flat_map_more, nil_from_length, take_all}
@@ -22,14 +21,21 @@ pieces_after (line ∷ lines) xs each =
 ended_more : (lines : List (List ℕ)) (line : List ℕ) → ended_lines (lines ++ line ∷ []) ≡ ended_lines lines ++ (line ++ 10 ∷ [])
 ended_more lines line = sym (flat_map_more (λ l. l ++ 10 ∷ []) [] lines line)
 
--- where a test gives none, it fails; std has the other half, `cond_some`
-cond_none : {X : Type 0} (b : Bool) (x : X) → cond b (Some x) None ≡ None → b ≡ false
-cond_none true x is = cc
-cond_none false x is = refl
+-- if a test gives none, it fails; std has the other half, `cond_some`
+false_if_none : {X : Type 0} (b : Bool) (x : X) → cond b (Some x) None ≡ None → b ≡ false
+false_if_none true x is = cc
+false_if_none false x is = refl
 
--- where the first line feed would stand after all bytes there is none
+-- if the first line feed would stand after all bytes, there is none
 no_feed : (xs : List ℕ) → length xs ≤ position_or_len is_feed xs → HasNoFeed xs
 no_feed xs past = λ k d low. fails_before_first is_feed xs k d (omega (arith, low, past))
+
+-- if two lists have no line feed, both together have none
+no_feed_append : (xs ys : List ℕ) → HasNoFeed xs → HasNoFeed ys → HasNoFeed (xs ++ ys)
+no_feed_append = All-append (λ b. is_feed b ≡ false)
+
+no_feed_nil : HasNoFeed []
+no_feed_nil = All-nil (λ b. is_feed b ≡ false)
 
 -- before the first line feed there is none
 none_before : (xs : List ℕ) → HasNoFeed (before_first is_feed xs)
@@ -37,14 +43,14 @@ none_before xs = λ k d low.
     let early : k < position_or_len is_feed xs = omega (arith, low, length-take (position_or_len is_feed xs) xs) in
     rw (get_or-take (position_or_len is_feed xs) xs k d early) (fails_before_first is_feed xs k d early)
 
--- where no line is held, no line feed is, and these are not the last bytes
+-- if no line is held, no line feed is, and these are not the last bytes
 none_held : (h : Held) → held_line h ≡ None → HasNoFeed h.rest × (are_last h ≡ false)
 none_held h none =
     let p = nat_lt (position_or_len is_feed h.rest) (length h.rest) in
-    let parts = or_parts p (are_last h) (cond_none (p || are_last h) (before_first is_feed h.rest) none) in
+    let parts = or_parts p (are_last h) (false_if_none (p || are_last h) (before_first is_feed h.rest) none) in
     (no_feed h.rest (ltb-false (position_or_len is_feed h.rest) (length h.rest) parts.0), parts.1)
 
--- at the end of the input, where no line is held, nothing is
+-- if no line is held at the end of the input, nothing is
 nothing_left : (h : Held) → held_line h ≡ None → h.has_ended ≡ true → (h.is_cut ≡ false) × (h.rest ≡ [])
 nothing_left h none ended =
     let last = (none_held h none).1 in
@@ -52,12 +58,12 @@ nothing_left h none ended =
     let parts = or_parts h.is_cut (nat_lt 0 (length h.rest)) held in
     (parts.0, nil_from_length h.rest (omega (arith, ltb-false 0 (length h.rest) parts.1)))
 
--- the pieces, where no line feed is held
+-- the pieces, if no line feed is held
 pieces_held : (bytes : List ℕ) (lines : List (List ℕ)) (h : Held) → (t : AreTaken bytes lines h) → HasNoFeed h.rest → pieces_of bytes ≡ lines
     ++ (t.front ++ h.rest) ∷ []
 pieces_held bytes lines h t none =
     ap pieces_of t.whole ∙ pieces_after lines (t.front ++ h.rest) t.each
-    ∙ ap (λ ls. lines ++ ls) (slice_split_none is_feed (t.front ++ h.rest) (All-append (λ b. is_feed b ≡ false) t.front h.rest t.none none))
+    ∙ ap (λ ls. lines ++ ls) (slice_split_none is_feed (t.front ++ h.rest) (no_feed_append t.front h.rest t.none none))
 
 -- a line was taken that a line feed ends
 taken_feed : (bytes : List ℕ) (lines : List (List ℕ)) (h : Held) → (t : AreTaken bytes lines h) → position_or_len is_feed h.rest < length h.rest
@@ -75,8 +81,8 @@ taken_feed bytes lines h t low =
           ∙ ap (λ r. ended_lines lines ++ r) (sym (append_assoc line (10 ∷ []) after))
           ∙ sym (append_assoc (ended_lines lines) (line ++ 10 ∷ []) after)
           ∙ ap (λ r. r ++ after) (sym (ended_more lines line));
-      each = All-push HasNoFeed lines line t.each (All-append (λ b. is_feed b ≡ false) t.front found t.none (none_before h.rest));
-      none = All-nil (λ b. is_feed b ≡ false);
+      each = All-push HasNoFeed lines line t.each (no_feed_append t.front found t.none (none_before h.rest));
+      none = no_feed_nil;
       all = λ _. refl;
       long = λ is. cc;
     }
@@ -102,38 +108,38 @@ none_of_all bytes lines h found t is =
     let none : held_line h ≡ None = ap (λ r. first_line r (are_last h)) t.rest ∙ ap (first_line []) last in
     cc (none, is)
 
--- what is found is the line but for a front that was given up
+-- what is found is the line except a front that was given up
 is_line : (bytes : List ℕ) (lines : List (List ℕ)) (h : Held) (found : List ℕ) → (t : AreTaken bytes lines h) → IsLine h found (t.front ++ found)
 is_line bytes lines h found t = (
   λ whole. ap (λ r. r ++ found) (t.all whole),
   λ cut. let long = t.long cut in omega (arith, long, length-append t.front found),
 )
 
--- a line was taken
-taken : (bytes : List ℕ) (lines : List (List ℕ)) (h : Held) (found : List ℕ) → AreTaken bytes lines h → held_line h ≡ Some found
+-- a line was taken, whatever ends it
+taken_line : (bytes : List ℕ) (lines : List (List ℕ)) (h : Held) (found : List ℕ) → AreTaken bytes lines h → held_line h ≡ Some found
     → (line : List ℕ) × IsLine h found line × TakesLines bytes (lines ++ line ∷ []) (without_line h)
-taken bytes lines h found t is =
+taken_line bytes lines h found t is =
     let p = nat_lt (position_or_len is_feed h.rest) (length h.rest) in
     let some = cond_some (p || are_last h) (before_first is_feed h.rest) found is in
     let line = t.front ++ before_first is_feed h.rest in
-    let taken : TakesLines bytes (lines ++ line ∷ []) (without_line h) = ⊎_elim
+    let takes : TakesLines bytes (lines ++ line ∷ []) (without_line h) = ⊎_elim
     (λ (e : p ≡ true). inl (taken_feed bytes lines h t (ltb-true _ _ e)))
     (λ (e : p ≡ false).
     let last : are_last h ≡ true = sym (ap (λ low. low || are_last h) e) ∙ some.0 in
     inr (taken_last bytes lines h t (ltb-false _ _ e) (and_parts h.has_ended (h.is_cut || nat_lt 0 (length h.rest)) last).0))
     (cases_Bool p) in
-    (line, subst (λ f. IsLine h f line) some.1 (is_line bytes lines h (before_first is_feed h.rest) t), taken)
+    (line, subst (λ f. IsLine h f line) some.1 (is_line bytes lines h (before_first is_feed h.rest) t), takes)
 
 -- the front of a line that is too long was given up, and more came
-kept : (bytes more : List ℕ) (lines : List (List ℕ)) (h : Held) (ends : Bool) → AreTaken bytes lines h → HasNoFeed h.rest
+more_came : (bytes more : List ℕ) (lines : List (List ℕ)) (h : Held) (ends : Bool) → AreTaken bytes lines h → HasNoFeed h.rest
     → AreTaken (bytes ++ more) lines (record { rest = (with_room h).rest ++ more; is_cut = is_too_long h; has_ended = ends })
-kept bytes more lines h ends t none = ⊎_elim
+more_came bytes more lines h ends t none = ⊎_elim
     (λ (e : is_too_long h ≡ true). record {
       front = t.front ++ h.rest;
       whole = ap (λ bs. bs ++ more) t.whole ∙ append_assoc (ended_lines lines) (t.front ++ h.rest) more
           ∙ ap (λ r. ended_lines lines ++ ((t.front ++ h.rest) ++ r)) (sym (ap (λ c. cond c [] h.rest ++ more) e));
       each = t.each;
-      none = All-append (λ b. is_feed b ≡ false) t.front h.rest t.none none;
+      none = no_feed_append t.front h.rest t.none none;
       all = λ not_so. absurd (cc (e, not_so));
       long = λ _. ⊎_elim
           (λ (cut : h.is_cut ≡ true). let long = t.long cut in omega (arith, long, length-append t.front h.rest))
@@ -153,19 +159,19 @@ kept bytes more lines h ends t none = ⊎_elim
 
 pub lines_are_pieces : LinesArePieces
 lines_are_pieces = record {
-  first = inl record { front = []; whole = refl; each = All-nil HasNoFeed; none = All-nil (λ b. is_feed b ≡ false); all = λ _. refl; long = λ is. cc };
+  first = inl record { front = []; whole = refl; each = All-nil HasNoFeed; none = no_feed_nil; all = λ _. refl; long = λ is. cc };
   taken = λ bytes lines h found was is. ⊎_elim
-      (λ (t : AreTaken bytes lines h). taken bytes lines h found t is)
+      (λ (t : AreTaken bytes lines h). taken_line bytes lines h found t is)
       (λ (t : AreAllTaken bytes lines h). absurd (none_of_all bytes lines h found t is))
       was;
   more = λ bytes more lines h was none going. ⊎_elim
-      (λ (t : AreTaken bytes lines h). inl (kept bytes more lines h (nat_eq (length more) 0) t (none_held h none).0))
+      (λ (t : AreTaken bytes lines h). inl (more_came bytes more lines h (nat_eq (length more) 0) t (none_held h none).0))
       (λ (t : AreAllTaken bytes lines h). absurd (let e = t.ended in cc (going, e)))
       was;
   room = λ bytes lines h was none going. ⊎_elim
       (λ (t : AreTaken bytes lines h). inl (subst (λ bs. AreTaken bs lines (with_room h)) (append-nil bytes)
       (subst (λ r. AreTaken (bytes ++ []) lines (record { rest = r; is_cut = is_too_long h; has_ended = h.has_ended })) (append-nil (with_room h).rest)
-      (kept bytes [] lines h h.has_ended t (none_held h none).0))))
+      (more_came bytes [] lines h h.has_ended t (none_held h none).0))))
       (λ (t : AreAllTaken bytes lines h). absurd (let e = t.ended in cc (going, e)))
       was;
   begins = λ bytes lines h was. ⊎_elim

@@ -27,7 +27,7 @@ was_written events = flat_map bytes_written events
 abbrev pub writes_of : List (List ℕ) → List Event
 writes_of pieces = map (λ piece. Wrote piece) pieces
 
--- ---- what a call did, if a history is known by a first state and the events since then
+-- ---- what a call did; `did` is the `Did` of a `Wire` (src/wire.rt): a first state, a later one and the events between them
 
 -- whatever had led to the first state, with these events more it leads to the second
 abbrev pub Does : {W : Type 0} → (W → W → List Event → Type 0) → W → List Event → W → Type 0
@@ -41,19 +41,19 @@ DoesNothing {W} did old new = (start : W) (events : List Event) → did start ol
 abbrev pub Writes : {W : Type 0} → (W → W → List Event → Type 0) → W → List ℕ → W → Type 0
 Writes did old bytes new = (pieces : List (List ℕ)) × Does did old (writes_of pieces) new × (concat pieces ≡ bytes)
 
--- what a call of a side of a wire tells of faults: that one has failed from then on if it failed, and else no more than before
+-- what a call leaves of the two marks of a wire: its own side, reads or writes, has failed if the call did, and else as before; the other is as before
 pub record TellsFaults {W X E : Type 0} (failed other : W → Bool) (old : W) (result : Result X E) (new : W) : Type 0 where
   pub ok : OnOk result (failed new ≡ failed old)
   pub err : OnErr result (failed new ≡ true)
   pub other_side : other new ≡ other old
 
--- How a call of a side of a wire ends that did this, or did nothing. `failed` says whether a call of its side has failed, and `other` whether one of
+-- How a call ends that did this, or did nothing. `failed` says whether a call of its own side, reads or writes, has failed, and `other` whether one of
 -- the other side has.
 pub record Ends {W X E : Type 0} (did : W → W → List Event → Type 0) (failed other : W → Bool) (old : W) (events : X → List Event) (result : Result X E) (new : W) : Type 0 where
   pub done : IfOk result (λ x. Does did old (events x) new)
   pub nothing : OnErr result (DoesNothing did old new)
   pub faults : TellsFaults failed other old result new
 
--- a law: if nothing more comes, the reads have given all that was left to read at first, if that is known
+-- the law of `all_was_read` (src/wired.rt): if nothing more comes, the reads have given all that was left to read at first, if that is known
 abbrev pub AllWasRead : {W : Type 0} → (W → W → List Event → Type 0) → (W → Type 0) → (W → Option (List ℕ)) → Type 0
 AllWasRead {W} did at_end left = (start wire : W) (events : List Event) → did start wire events → at_end wire → IfSome (left start) (λ bytes. was_read events ≡ bytes)

@@ -1,2 +1,3 @@
+-- Definitions, a file for each subject.
 pub mod Events
 pub mod Lines

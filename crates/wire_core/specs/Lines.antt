@@ -15,7 +15,7 @@ abbrev pub most_line : ℕ
 most_line = 65536
 
 -- What is held of an input: the bytes that came and were not taken, whether the front of their first line was given up for its length, and whether
--- the input has ended.
+-- the input has ended. It is the model of `Lines` (src/lines.rt); clap has a `Held` of its own, and `HeldInput` of command_runs is another reader.
 pub record Held : Type 0 where
   pub rest : List ℕ
   pub is_cut : Bool
@@ -87,7 +87,7 @@ TakesLines bytes lines h = AreTaken bytes lines h ⊎ AreAllTaken bytes lines h
 abbrev pub IsLine : Held → List ℕ → List ℕ → Type 0
 IsLine h found line = (h.is_cut ≡ false → line ≡ found) × (h.is_cut ≡ true → most_line + 1 < length line)
 
--- however an input is cut into pieces, the lines that are taken of it are those between its line feeds
+-- the law of src/laws.rt: however an input is cut into pieces, the lines that are taken of it are those between its line feeds
 pub record LinesArePieces : Type 0 where
   -- at first nothing has come
   pub first : TakesLines [] [] nothing_held
@@ -97,7 +97,7 @@ pub record LinesArePieces : Type 0 where
   -- more comes, if no line is held and the input has not ended
   pub more : (bytes more : List ℕ) (lines : List (List ℕ)) (h : Held) → TakesLines bytes lines h → held_line h ≡ None → h.has_ended ≡ false
       → TakesLines (bytes ++ more) lines (arrived h more)
-  -- the front of a line that is too long is given up
+  -- a read fails, after room was made for it
   pub room : (bytes : List ℕ) (lines : List (List ℕ)) (h : Held) → TakesLines bytes lines h → held_line h ≡ None → h.has_ended ≡ false
       → TakesLines bytes lines (with_room h)
   -- the lines that were taken are the first pieces

@@ -1,5 +1,5 @@
 //! The lines of an input that comes in pieces.
-ghost use Rattle.std.specs.Prelude.{◌≡◌, ◌≤◌, ◌||◌, ◌<◌, ◌+◌, nat_lt, drop, if◌then◌else◌, vec_capacity, ◌∷◌, ◌++◌, [], ℕ, List, None, Some, true, IfNone, IfOk, IfSome, OnErr, OnOk, length};
+ghost use Rattle.std.specs.Prelude.{◌≡◌, ◌≤◌, ◌||◌, ◌<◌, ◌+◌, nat_lt, drop, if◌then◌else◌, vec_capacity, ◌∷◌, [], ℕ, List, None, Some, true, IfNone, IfOk, IfSome, OnErr, OnOk, length};
 ghost use Rattle.wire_core.specs.Events.{Ends};
 ghost use Rattle.wire_core.specs.Events.Event.{Read};
 ghost use Rattle.wire_core.specs.Lines.{arrived, first_line, held_line, most_line, nothing_held, with_room, without_line};
@@ -11,9 +11,11 @@ use std::alloc::{AllocError, Global};
 use std::marker::Model;
 
 /// As many bytes as a line has at most, without the line feed and a carriage return before it: `most_line` in specs/.
+/// No symbol has so many widths.
 pub const MOST_LINE: usize = 65_536;
 
-/// How many bytes are asked for at a time. The invariant of `Lines` has this number and the next too.
+/// The most bytes of one read, a choice for speed: neither `MOST_LINE` nor the `CHUNK` of another crate must be the
+/// same. The invariant of `Lines` has this number and the next too.
 const CHUNK: usize = 65_536;
 
 /// What is held at most: a line with its carriage return, and what one more read gives.
@@ -23,8 +25,10 @@ const ROOM: usize = MOST_LINE + 1 + CHUNK;
 /// that what is held has a limit.
 #[derive(Drop)]
 pub struct Lines {
+    /// What is held, from `start` on.
     bytes: Vec<u8>,
     start: usize,
+    /// Where a piece is read to first.
     chunk: Vec<u8>,
     is_cut: bool,
     has_ended: bool,
@@ -42,7 +46,7 @@ impl Model for Lines {
     ghost invariant = { λ s. (s.start ≤ length s.bytes.items) × (131073 ≤ vec_capacity s.bytes) × (length s.chunk.items ≡ 65536) };
 }
 
-/// The bytes before the first line feed, if there is one, or if these are the last bytes of the input.
+/// As `first_line` in specs/.
 fn first_line(bytes: &[u8], are_last: bool) -> Option<&[u8]>
     ensures some { IfSome result (λ line. first_line bytes.now are_last ≡ Some line.now) }
     ensures none { IfNone result (first_line bytes.now are_last ≡ None) }
@@ -55,7 +59,7 @@ fn first_line(bytes: &[u8], are_last: bool) -> Option<&[u8]>
 }
 
 /// Keeps the bytes from `start` on, or none if they are too many for a line or its front was given up before;
-/// and says whether it was given up.
+/// and says whether it was given up. `is_too_long` and `with_room` in specs/ say so of what is held.
 fn keep_rest(bytes: &mut Vec<u8>, start: usize, is_cut: bool) -> bool
     requires { start ≤ length bytes.old.items }
     ensures cut { result ≡ (is_cut || nat_lt (most_line + 1) (length (drop start bytes.old.items))) }
@@ -67,7 +71,7 @@ fn keep_rest(bytes: &mut Vec<u8>, start: usize, is_cut: bool) -> bool
         bytes.clear();
         return true;
     }
-    // The rest is copied at once: a drain turns it byte by byte.
+    // As in `HeldInput` of command_runs: a drain would move the bytes one by one.
     let len = bytes.len();
     bytes.copy_within(start..len, 0);
     bytes.truncate(len - start);
@@ -122,7 +126,8 @@ impl Lines {
         self.is_cut = false;
     }
 
-    /// Reads what there is, if no line is held and the input has not ended.
+    /// Reads once more. It is for an input that has not ended and of which no line is held: of another the law
+    /// `lines_are_pieces` says nothing.
     pub fn read<W: Wire>(&mut self, wire: &mut W) -> Result<(), Failed>
         ensures ok { (bytes : List ℕ) × OnOk result (self.new ≡ arrived self.old bytes) × Ends W.Did W.read_failed W.write_failed wire.old (λ _. Read bytes ∷ []) result wire.new }
         ensures err { OnErr result (self.new ≡ with_room self.old) }
@@ -132,7 +137,7 @@ impl Lines {
         self.start = 0;
         let count = wire.read(self.chunk.as_mut_slice())?;
         let came = &self.chunk.as_slice()[..count];
-        // There is room.
+        // It does not fail: there is `ROOM`.
         let _ = self.bytes.extend_from_slice(came);
         self.has_ended = count == 0;
         Ok(())

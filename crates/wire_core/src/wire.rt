@@ -1,4 +1,4 @@
-//! A reader and a writer whose calls stand in one order.
+//! The trait of what is read and written in one order, and how all of several bytes are written.
 ghost use Rattle.std.specs.Prelude.{◌≡◌, ◌<◌, ◌≤◌, ◌∷◌, ◌++◌, [], ℕ, List, Bool, length, take, IfOk, OnOk, OnErr};
 ghost use Rattle.wire_core.specs.Events.{Ends, Event, TellsFaults, Writes};
 ghost use Rattle.wire_core.specs.Events.Event.{Read, Wrote};
@@ -16,14 +16,15 @@ pub trait Wire {
     // Nothing more comes.
     ghost at_end: { Self → Type 0 };
 
-    /// Reads at most as many bytes as `buf` has, into its front, and says how many; 0 into a buffer that is not
-    /// empty is the end. An interruption is a failure.
+    /// Reads into the front of `buf` and says how many bytes, as `digits_core::Source::read` does. But a call
+    /// after a failure may succeed.
     fn read(&mut self, buf: &mut [u8]) -> Result<usize, Failed>
         ensures few { IfOk result (λ n. n ≤ length buf.new) }
         ensures ends { Ends Did read_failed write_failed self.old (λ n. Read (take n buf.new) ∷ []) result self.new }
         ensures end { IfOk result (λ n. n ≡ 0 → 0 < length buf.new → at_end self.new) };
 
-    /// Writes a prefix of the bytes and says how many they are, at least one of a piece that has some.
+    /// Writes a front of the bytes and says how many, as `digits_core::Sink::write` does. But a call after a
+    /// failure may succeed.
     fn write(&mut self, bytes: &[u8]) -> Result<usize, Failed>
         ensures few { IfOk result (λ n. n ≤ length bytes.now) }
         ensures some { IfOk result (λ n. 0 < length bytes.now → 0 < n) }
@@ -31,7 +32,7 @@ pub trait Wire {
         ensures end { at_end self.old → at_end self.new };
 }
 
-/// Writes all the bytes, in as many writes as it takes. After an `Err` a prefix of them went out.
+/// Writes all the bytes, as `digits_core::write_all` does to a sink.
 pub fn write_all<W: Wire>(wire: &mut W, bytes: &[u8]) -> Result<(), Failed>
     ensures ok { OnOk result (Writes W.Did wire.old bytes.now wire.new) }
     ensures err { OnErr result ((done rest : List ℕ) × Writes W.Did wire.old done wire.new × (done ++ rest ≡ bytes.now)) }

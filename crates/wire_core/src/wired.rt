@@ -5,8 +5,8 @@ ghost use Rattle.wire_core.specs.Events.{AllWasRead};
 use crate::wire::Wire;
 use digits_core::{Failed, Sink, Source};
 
-/// A source and a sink as one wire. What the source gave and the sink took is known as far as each tells it, and
-/// not which came first.
+/// A source and a sink as one wire. What the source gave and what the sink took is known as far as each of them
+/// reports it; which came first is not known.
 #[derive(Drop)]
 pub struct Wired<S: Source, W: Sink> {
     source: S,

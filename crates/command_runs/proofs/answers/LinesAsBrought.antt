@@ -1,4 +1,4 @@
--- The lines of each lane as deliveries are brought, and the report of no rows (of specs/inner/Reports).
+-- The lines of each lane as deliveries are brought, the report of no rows, and texts that are joined (of specs/inner/AnswerLines).
 use Rattle.std.proofs.Common.{◌+◌, ◌<◌, ◌++◌, ◌≡◌, ◌∙◌, ◌∷◌, All, Err, IfOk, List, Ok, OnOk, Result, [], ap, append_assoc, arith, get_or, length, map, refl, replicate, set, subst, suc, sym, zero, ℕ}
 use Rattle.std.specs.List.{AllZip, concat}
 use Rattle.std.proofs.lemmas.List.{append-nil, get_or-map, length-map, map-append, map-set}
@@ -10,11 +10,11 @@ use Rattle.scan_core.specs.declared.answer.Answer.{Answer}
 use Rattle.lane_core.specs.declared.job.Plain.{Plain}
 use Rattle.hub_core.specs.Laws.{AreAnswersOf}
 use Rattle.hub_core.specs.Traffics.{with_more}
-use Rattle.command_runs.specs.inner.Reports.{AreLinesOf}
+use Rattle.command_runs.specs.inner.AnswerLines.{AreLinesOf}
 use Rattle.command_runs.specs.answers.Reports.{IsReport, lane_lines, line_of, lines_from}
 use Rattle.element_core.specs.Terms.{Terms}
 
--- one more line
+-- one more line, as one_more_label of csv_records/proofs/print/LabelLinesGrow is of labels
 one_more_line : (lane number : ℕ) (answers : List Answer) (a : Answer)
     → lines_from lane number (answers ++ a ∷ []) ≡ lines_from lane number answers ++ line_of lane (number + length answers) a
 one_more_line lane number [] a =
@@ -24,6 +24,7 @@ one_more_line lane number (b ∷ answers) a =
     ∙ ap (λ k. lines_from lane (number + 1) answers ++ line_of lane k a) (omega arith))
     ∙ sym (append_assoc (line_of lane number b) (lines_from lane (number + 1) answers) (line_of lane (number + length (b ∷ answers)) a))
 
+-- one more line at the end of the text of a lane is that of one more answer of the lane
 line_at : (first : ℕ) (answers : List (List Answer)) (i : ℕ) (a : Answer) → i < length answers
     → set (lane_lines first answers) i (get_or (lane_lines first answers) i [] ++ line_of (first + i) (length (get_or answers i [])) a)
     ≡ lane_lines first (set answers i (get_or answers i [] ++ a ∷ []))
@@ -37,9 +38,11 @@ line_at first (x ∷ rest) (suc i) a low =
     (ap (λ k. set (lane_lines (first + 1) rest) i (get_or (lane_lines (first + 1) rest) i [] ++ line_of k (length (get_or rest i [])) a)) (omega arith)
     ∙ line_at (first + 1) rest i a (omega (arith, low)))
 
+-- what `AreAnswersOf` says of a delivery and its answer
 abbrev IsAnswerTo : Plain → Answer → Type 0
 IsAnswerTo = λ x answer. IsAnswer x.widths x.year answer
 
+-- the answers are those of what was brought still (both lists are `with_more`, written out)
 answered_more : (brought : List (List Plain)) (answers : List (List Answer)) (i : ℕ) (x : Plain) (a : Answer) → i < length brought → IsAnswer x.widths x.year a
     → AllZip AreAnswersOf brought answers
     → AllZip AreAnswersOf (set brought i (get_or brought i [] ++ x ∷ [])) (set answers i (get_or answers i [] ++ a ∷ []))
@@ -48,6 +51,7 @@ answered_more (xs ∷ brought) [] i x a low is was = absurd was
 answered_more (xs ∷ brought) (ys ∷ answers) zero x a low is was = (all_zipped_more IsAnswerTo xs ys x a was.0 is, was.1)
 answered_more (xs ∷ brought) (ys ∷ answers) (suc i) x a low is was = (was.0, answered_more brought answers i x a (omega (arith, low)) is was.1)
 
+-- a lane was brought as many deliveries as it has answers
 as_many : (brought : List (List Plain)) (answers : List (List Answer)) (i : ℕ) → AllZip AreAnswersOf brought answers → length (get_or brought i [])
     ≡ length (get_or answers i [])
 as_many [] [] i was = refl
@@ -56,6 +60,7 @@ as_many (xs ∷ brought) [] i was = absurd was
 as_many (xs ∷ brought) (ys ∷ answers) zero was = omega (arith, AllZip-long IsAnswerTo xs ys was.0)
 as_many (xs ∷ brought) (ys ∷ answers) (suc i) was = as_many brought answers i was.1
 
+-- each lane has a text
 lanes_long : (first : ℕ) (answers : List (List Answer)) → length (lane_lines first answers) ≡ length answers
 lanes_long first [] = refl
 lanes_long first (x ∷ rest) = ap suc (lanes_long (first + 1) rest)
@@ -100,14 +105,16 @@ lines_brought f vs i v w (Ok u) x l n is lane same at told = λ brought low numb
     subst (AreLinesOf (with_more x.lane x brought)) (sym (map-set f vs i w ∙ ap (λ k. set (map f vs) k (f w)) is))
     (lines_more brought (map f vs) (f w) x.lane x a low number answers line was)
 
-none_from : (first n : ℕ) → (answers : List (List Answer)) × AllZip AreAnswersOf (replicate n []) answers × (replicate n [] ≡ lane_lines first answers)
-none_from first zero = ([], tt, refl)
-none_from first (suc n) = let rest = none_from (first + 1) n in ([] ∷ rest.0, (tt, rest.1), ap (λ ts. [] ∷ ts) rest.2)
+-- no lane from a first one on was brought any
+no_lines_from : (first n : ℕ) → (answers : List (List Answer)) × AllZip AreAnswersOf (replicate n []) answers × (replicate n [] ≡ lane_lines first answers)
+no_lines_from first zero = ([], tt, refl)
+no_lines_from first (suc n) = let rest = no_lines_from (first + 1) n in ([] ∷ rest.0, (tt, rest.1), ap (λ ts. [] ∷ ts) rest.2)
 
 -- no lane was brought any
 pub no_lines : (n : ℕ) (texts : List (List ℕ)) → texts ≡ replicate n [] → AreLinesOf (replicate n []) texts
-no_lines n texts is = let none = none_from 0 n in (none.0, none.1, is ∙ none.2)
+no_lines n texts is = let none = no_lines_from 0 n in (none.0, none.1, is ∙ none.2)
 
+-- the answers and the lines of no rows, from a first lane on
 rowless_from : {V : Type 0} (f : V → List (List ℕ)) (year : Terms) (first : ℕ) (vs : List V) → All (λ v. f v ≡ []) vs
     → (answers : List (List Answer)) × AllZip (λ rows read. Reads rows year read) (map f vs) answers × ([] ≡ concat (lane_lines first answers))
 rowless_from f year first [] none = ([], tt, refl)

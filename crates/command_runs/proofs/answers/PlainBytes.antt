@@ -1,4 +1,5 @@
--- Plain bytes, by what is looked for in them: no byte order mark, no quote, and no carriage return inside a line; for `are_plain`.
+-- Plain bytes (`IsPlain`), by what is looked for in them: no byte order mark (its first byte is 239), no quote (34), and no carriage return (13) inside a
+-- line, which a line feed (10) ends.
 use Rattle.std.proofs.Common.{Bool, true, nat_eq, slice_index_or, ◌-◌, ◌≤◌, get_or, inl, inr, length-append, length-drop, ◌≡◌, ◌<◌, ◌+◌, ◌++◌, ◌==◌, ◌∙◌, ◌∷◌, sym, All, List, None, Some, [], ap, arith, drop, false, length, refl, ℕ}
 use Rattle.std.specs.List.{position_or_len}
 use Rattle.std.proofs.lemmas.Bool.{cases_lt, eq-eqb, eqb-true, false_from_ne_true, or_left, or_right}
@@ -13,7 +14,7 @@ module _ (c : ℕ) where
   abbrev is_it : ℕ → Bool
   is_it b = b == c
 
-  -- a byte that is not found is none of them
+  -- a byte that is not found is none of the bytes (`no_first_feed` of wire_core: no line feed)
   pub past_all : (xs : List ℕ) → IsFirstByte (is_byte c) xs None → position_or_len is_it xs ≡ length xs
   past_all xs none = position_or_len_is is_it xs (length xs) 0 (omega arith)
       (λ j low. false_from_ne_true _ (none j (omega arith) low)) (λ low. absurd (omega (arith, low)))
@@ -21,8 +22,8 @@ module _ (c : ℕ) where
   pub no_byte : (xs : List ℕ) → IsFirstByte (is_byte c) xs None → All (λ b. (b == c) ≡ false) xs
   no_byte xs none = let past = past_all xs none in λ k d low. fails_before_first is_it xs k d (omega (arith, low, past))
 
-pub plain_of : (xs : List ℕ) → strip_bom xs ≡ xs → IsFirstByte (is_byte 34) xs None → ReturnsEndLines xs → IsPlain xs
-plain_of xs mark none returns = record { no_mark = mark; no_quote = no_byte 34 xs none; returns = returns }
+pub plain_if : (xs : List ℕ) → strip_bom xs ≡ xs → IsFirstByte (is_byte 34) xs None → ReturnsEndLines xs → IsPlain xs
+plain_if xs mark none returns = record { no_mark = mark; no_quote = no_byte 34 xs none; returns = returns }
 
 -- up to a place each carriage return stands before a line feed
 abbrev pub EndUpTo : List ℕ → ℕ → Type 0
@@ -59,13 +60,7 @@ return_from : (bytes before after : List ℕ) (next from : ℕ) → bytes ≡ be
 return_from bytes before after next from is up =
     return_sought _ (byte_from bytes (length before) from 13 up (return_at bytes before after next is).0)
 
-pub none_up_to : (bytes : List ℕ) → EndUpTo bytes 0
-none_up_to bytes before after next is low = absurd (omega (arith, low))
-
-pub all_end : (bytes : List ℕ) (from : ℕ) → EndUpTo bytes from → length bytes ≤ from → ReturnsEndLines bytes
-all_end bytes from was past before after next is =
-    let high = (return_at bytes before after next is).2 in was before after next is (omega arith)
-
+-- the search of `are_lines` for carriage returns: its end when nothing more is found, and a step when one is found
 pub no_more_returns : (bytes : List ℕ) (from : ℕ) → EndUpTo bytes from → IsFirstByte (is_byte2 13 34) (drop from bytes) None → ReturnsEndLines bytes
 no_more_returns bytes from was none before after next is =
     let high = (return_at bytes before after next is).2 in
@@ -87,15 +82,9 @@ one_more_return bytes from at was found feed before after next is low =
       ]
     ]
 
--- no quote stands before a place
+-- no quote stands before a place; the end and a step of the search for quotes follow
 abbrev pub NoQuoteUpTo : List ℕ → ℕ → Type 0
 NoQuoteUpTo bytes from = Nowhere (Passes (is_byte 34) bytes) 0 from
-
-pub no_quote_at_first : (bytes : List ℕ) → NoQuoteUpTo bytes 0
-no_quote_at_first bytes k least low is = absurd (omega (arith, low))
-
-pub all_without_quote : (bytes : List ℕ) (from : ℕ) → NoQuoteUpTo bytes from → length bytes ≤ from → IsFirstByte (is_byte 34) bytes None
-all_without_quote bytes from was past k least low is = was k least (omega (arith, low, past)) is
 
 pub no_more_quotes : (bytes : List ℕ) (from : ℕ) → NoQuoteUpTo bytes from → IsFirstByte (is_byte2 13 34) (drop from bytes) None
     → IsFirstByte (is_byte 34) bytes None
@@ -119,6 +108,7 @@ one_more_unquoted bytes from at was found here k least low is =
       ]
     ]
 
+-- another first byte begins no byte order mark, and the empty text has none
 pub no_mark : (xs : List ℕ) → nat_eq (slice_index_or xs 0 0) 239 ≡ false → strip_bom xs ≡ xs
 unfolding strip_bom
 no_mark [] other = refl
@@ -126,7 +116,7 @@ no_mark (a ∷ []) other = refl
 no_mark (a ∷ b ∷ []) other = refl
 no_mark (a ∷ b ∷ c ∷ rest) other = rw other refl
 
-pub no_bytes : (xs : List ℕ) → length xs ≡ 0 → strip_bom xs ≡ xs
+pub empty_no_mark : (xs : List ℕ) → length xs ≡ 0 → strip_bom xs ≡ xs
 unfolding strip_bom
-no_bytes [] none = refl
-no_bytes (a ∷ xs) none = absurd (omega (arith, none))
+empty_no_mark [] none = refl
+empty_no_mark (a ∷ xs) none = absurd (omega (arith, none))

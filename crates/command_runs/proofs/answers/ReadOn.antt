@@ -1,11 +1,12 @@
--- Which records are left once a line, a piece or the rest is taken, for `RowReader`: the front of a plain text is read, whatever follows its line feed.
+-- Which records are left when lines are cut off what is held, a piece comes or the rest goes to `csv` (for `row_reader.rt`): the lines of a plain text
+-- before a line feed are records, whatever follows.
 use Rattle.std.proofs.Common.{Bool, Err, List, Ok, Option, Result, [], ap, append_assoc, arith, cond, drop, false, length, length-append, map, refl, subst, sym, take, true, ℕ, ◌+◌, ◌++◌, ◌==◌, ◌&&◌, ◌≡◌, ◌≤◌, ◌∙◌, ◌∷◌}
 use Rattle.std.proofs.lemmas.List.{take-append-drop}
 use Rattle.std.proofs.lemmas.List.Elements.{All-drop, All-nil, All-take}
 use Rattle.command_runs.specs.inner.HeldInputs.{HoldsMore, held_of}
 use Rattle.command_runs.specs.inner.RowReaders.{GoesOnAs, GoesToCsv, HasCut}
 use Rattle.digits_core.specs.declared.source.InputFault.{InputFault}
-use Rattle.command_runs.proofs.answers.PlainBytes.{no_bytes}
+use Rattle.command_runs.proofs.answers.PlainBytes.{empty_no_mark}
 use Rattle.command_runs.proofs.answers.TakenAddsUp.{stops_later}
 use Rattle.command_runs.specs.declared.answers.row_reader.Course.{Course}
 use Rattle.command_runs.specs.declared.answers.held_input.HeldInput.{HeldInput}
@@ -30,6 +31,7 @@ other_third true false rest whole = refl
 other_third false true rest whole = refl
 other_third false false rest whole = refl
 
+-- a text that begins with a line feed, 10, has no mark
 feed_first : (rest : List ℕ) → strip_bom (10 ∷ rest) ≡ 10 ∷ rest
 unfolding strip_bom
 feed_first [] = refl
@@ -62,7 +64,9 @@ front_no_mark (a ∷ b ∷ c ∷ more) rest none = by (is_bom a b c) none
     by true same = absurd (omega (arith, ap length same))
     by false same = refl
 
--- the same of the parts of a text
+-- ---- plain texts
+
+-- if each carriage return of a text ends a line or the text (`ReturnsEndLines`), so does each of what follows a front, and each of a front
 returns_rest : (front rest : List ℕ) → ReturnsEndLines (front ++ rest) → ReturnsEndLines rest
 returns_rest front rest returns before after next is =
     returns (front ++ before) after next (ap (λ t. front ++ t) is ∙ sym (append_assoc front before (13 ∷ next ∷ after)))
@@ -71,9 +75,10 @@ returns_front : (front rest : List ℕ) → ReturnsEndLines (front ++ rest) → 
 returns_front front rest returns before after next is =
     returns before (after ++ rest) next (ap (λ t. t ++ rest) is ∙ append_assoc before (13 ∷ next ∷ after) rest)
 
+-- the text without a byte is plain
 pub nothing_plain : IsPlain []
 nothing_plain = record {
-  no_mark = no_bytes [] refl;
+  no_mark = empty_no_mark [] refl;
   no_quote = All-nil (λ b. (b == 34) ≡ false);
   returns = λ before after next is. absurd (omega (arith, ap length is, length-append before (13 ∷ next ∷ after)));
 }
@@ -102,7 +107,7 @@ plain_rest xs n rest feed plain = record {
   returns = returns_rest (take n xs) (drop n xs) (subst ReturnsEndLines (sym (take-append-drop n xs)) plain.returns);
 }
 
--- lines that were read are cut off
+-- what is held is cut off up to a line feed, and the records of its lines are read
 pub cut_on : (taken held : List ℕ) (n : ℕ) (rest : List ℕ) (rows : List Fields) → drop n held ≡ 10 ∷ rest → IsPlain held → HasCut taken held rows
     → HasCut taken (drop n held) (rows ++ map fields_in (record_lines (take n held)))
 cut_on taken held n rest rows feed plain cut more =
@@ -114,16 +119,12 @@ cut_on taken held n rest rows feed plain cut more =
     ∙ sym (append_assoc rows (map fields_in (record_lines text)) (records_of (10 ∷ rest ++ more)))
     ∙ ap (λ xs. (rows ++ map fields_in (record_lines text)) ++ records_of (xs ++ more)) (sym feed)
 
--- a piece comes
+-- a piece that was taken more is held behind the rest, and the same records were read
 pub piece_on : (taken held piece : List ℕ) (rows : List Fields) → HasCut taken held rows → HasCut (taken ++ piece) (held ++ piece) rows
 piece_on taken held piece rows cut more =
     ap records_of (append_assoc taken piece more) ∙ cut (piece ++ more) ∙ ap (λ xs. rows ++ records_of xs) (sym (append_assoc held piece more))
 
--- where the reading of lines stands, and how many records there are at most
-abbrev pub StandsAt : List ℕ → List ℕ → List Fields → Type 0
-StandsAt taken held rows = HasCut taken held rows × IsPlain held × (length rows + length held ≤ length taken)
-
--- a piece more is held
+-- and there are still no more records that were read and bytes that are held than bytes that were taken
 pub few_more : (taken held piece now : List ℕ) (rows : List Fields) → now ≡ held ++ piece → length rows + length held ≤ length taken
     → length rows + length now ≤ length (taken ++ piece)
 few_more taken held piece now rows is few = omega (arith, few, ap length is, length-append held piece, length-append taken piece)
@@ -134,7 +135,7 @@ module _ {S : Type 0} (left : S → Option (List ℕ)) (failed : S → Bool) whe
   csv_at_once i k (Ok to) goes = (goes.0, λ lent taken rows was stands. goes.1 lent taken rows was (stands.0.0, stands.0.2))
   csv_at_once i k (Err fault) goes = goes
 
-  -- once a piece was read that is no lines
+  -- or once a piece was read with which what is held is no plain text
   pub csv_after_piece : (i j k : HeldInput S) (r : Result Course InputFault) → HoldsMore left failed i (Ok true) j → GoesToCsv left failed j r k
       → GoesOnAs left failed i r k
   csv_after_piece i j k (Ok to) more goes = (

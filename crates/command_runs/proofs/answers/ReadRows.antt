@@ -20,15 +20,15 @@ use Rattle.csv_records.proofs.RecordsReadFirst.{read_few, read_front}
 use Rattle.command_runs.specs.inner.HeldInputs.{GivesUp, HasTaken, PassesRest, held_of}
 use Rattle.command_runs.specs.inner.Lines.{IsLineTo, last_of, with_line}
 use Rattle.command_runs.proofs.live.RecordsAreLines.{lines_are_records}
-use Rattle.command_runs.specs.inner.RowReaders.{GaveRows, HasCut, HasReadRows, HasReadTo, IsMeant, IsRefusedFor, KeepsRows, ReadRecord, StandsAfter, is_taken}
+use Rattle.command_runs.specs.inner.RowReaders.{GaveRows, HasCut, HasReadRows, HasReadTo, IsMeant, IsRefusedFor, KeepsRows, ReadRecord, StandsAfter, StandsAt, is_taken}
 use Rattle.command_runs.specs.live.Text.{fields_in}
 use Rattle.command_runs.specs.declared.answers.held_input.HeldInput.{HeldInput}
 use Rattle.command_runs.specs.declared.answers.row_reader.Course.{Course}
 use Rattle.command_runs.specs.declared.answers.row_reader.Course.TheVariants as course
 use Rattle.command_runs.specs.declared.answers.row_reader.RowReader.{RowReader}
-use Rattle.command_runs.proofs.answers.ReadOn.{StandsAt, cut_on, plain_rest}
+use Rattle.command_runs.proofs.answers.ReadOn.{cut_on, plain_rest}
 
--- as many records as bytes, and one
+-- at most one record more was read than bytes were taken
 few_rows : (k : Course) (taken held : List ℕ) (rows : List Fields) → StandsAfter k taken held rows → length rows ≤ length taken + 1
 few_rows course.Lines taken held rows stands = let few = stands.2 in omega (arith, few)
 few_rows course.LastLine taken held rows stands = let few = stands.2 in omega (arith, few)
@@ -40,10 +40,11 @@ few_rows course.Ended taken held rows stands = stands.1
 few_rows (course.Refused fault) taken held rows stands = absurd stands
 
 -- a line that was cut is one record at most
-one_line : (line : List ℕ) → length (map fields_in (with_line line [])) ≤ 1
-one_line [] = omega arith
-one_line (b ∷ line) = omega arith
+at_most_one_record : (line : List ℕ) → length (map fields_in (with_line line [])) ≤ 1
+at_most_one_record [] = omega arith
+at_most_one_record (b ∷ line) = omega arith
 
+-- exactly one if it has a byte, and none if not
 some_line : (line : List ℕ) → 0 < length line → map fields_in (with_line line []) ≡ fields_in line ∷ []
 some_line [] some = absurd (omega (arith, some))
 some_line (b ∷ line) some = refl
@@ -53,12 +54,12 @@ no_line [] none = refl
 no_line (b ∷ line) none = absurd (omega (arith, none))
 
 module _ {S : Type 0} (left : S → Option (List ℕ)) (failed : S → Bool) (lanes : ℕ) (lent : MutBor S) where
-  -- nothing depends on more than the course, the input, the count and the lanes
+  -- which rows were given depends on nothing of a reader but its lanes and its count
   pub rows_kept : (r s : RowReader S) (rows : List Fields) (items : List LaneRow) → s.lanes ≡ r.lanes → s.count ≡ r.count → KeepsRows lanes r rows items
       → KeepsRows lanes s rows items
   rows_kept r s rows items of_lanes count was = record { of_lanes = of_lanes ∙ was.of_lanes; count = count ∙ was.count; means = was.means; few = was.few }
 
-  -- how far the reading has come, by its course
+  -- where the reading stands after records, the source is not refused: these were read
   pub by_course : (r : RowReader S) (rows : List Fields) (k : Course) (taken : List ℕ) → r.course ≡ k → StandsAfter k taken (held_of r.input) rows
       → HasReadRows left failed lent r rows → HasReadTo left failed lent r k rows
   by_course r rows course.Lines taken is stands has = has
@@ -77,10 +78,12 @@ module _ {S : Type 0} (left : S → Option (List ℕ)) (failed : S → Bool) (la
 
   -- ---- what is held is lines
 
+  -- where a reader stands that has given these rows and holds lines
   abbrev pub AtLines : RowReader S → List LaneRow → Type 0
   AtLines r items = (rows : List Fields) × (taken : List ℕ) × KeepsRows lanes r rows items × HasTaken left failed lent r.input taken
       × StandsAt taken (held_of r.input) rows
 
+  -- `GaveRows` of a reader at lines says the same as `AtLines`; `of_lines` is the way back
   pub at_lines : (r : RowReader S) (items : List LaneRow) → r.course ≡ course.Lines → GaveRows left failed lanes lent r items → AtLines r items
   at_lines r items is gave =
       let has : HasReadRows left failed lent r gave.0 = subst (λ k. HasReadTo left failed lent r k gave.0) is gave.2 in
@@ -102,6 +105,7 @@ module _ {S : Type 0} (left : S → Option (List ℕ)) (failed : S → Bool) (la
 
   -- a line is cut off
   module _ (r s : RowReader S) (n : ℕ) (line : List ℕ) (gives : GivesUp n r.input s.input) (ends : IsLineTo (held_of r.input) line n) where
+    -- what is held then is lines still, and the line was read
     cut_stands : (taken : List ℕ) (rows : List Fields) → StandsAt taken (held_of r.input) rows
         → StandsAt taken (held_of s.input) (rows ++ map fields_in (with_line line []))
     cut_stands taken rows was =
@@ -112,9 +116,10 @@ module _ {S : Type 0} (left : S → Option (List ℕ)) (failed : S → Bool) (la
         subst (λ h. StandsAt taken h (rows ++ more)) (sym gives.0) (
           now,
           plain_rest held n (drop (n + 1) held) ends.feed was.1,
-          omega (arith, was.2, ends.some, one_line line, length-append rows more, length-drop n held, ap length ends.feed),
+          omega (arith, was.2, ends.some, at_most_one_record line, length-append rows more, length-drop n held, ap length ends.feed),
         )
 
+    -- nothing more was taken
     cut_taken : (taken : List ℕ) → HasTaken left failed lent r.input taken → HasTaken left failed lent s.input taken
     cut_taken taken was = record { same = rw gives.1 was.same; came = rw gives.1 was.came; room = rw gives.2 was.room; works = rw gives.1 was.works }
 
@@ -139,7 +144,7 @@ module _ {S : Type 0} (left : S → Option (List ℕ)) (failed : S → Bool) (la
 
   -- ---- a record is refused
 
-  -- no read has failed
+  -- no read has failed, so `fails` of `IsRefusedFor` is true of each fault but `ReadFault`
   works_still : (i : HeldInput S) (fault : RecordsFault) → failed i.source.now ≡ failed lent.now → (fault ≡ refused.ReadFault → ⊥)
       → failed lent.now ≡ false → (fault ≡ refused.ReadFault → failed i.source.now ≡ true) × (failed i.source.now ≡ true → fault ≡ refused.ReadFault)
   works_still i fault works other none = (λ is. absurd (other is), λ t. absurd (true≢false (sym t ∙ works ∙ none)))
@@ -162,10 +167,11 @@ module _ {S : Type 0} (left : S → Option (List ℕ)) (failed : S → Bool) (la
         fails = works_still i (refused.Record r.count f) was.works (λ is. cc is);
       }
 
+  -- a refused growth claims nothing of the records
   no_memory : (i : HeldInput S) (taken : List ℕ) → HasTaken left failed lent i taken → IsRefusedFor left failed lanes lent i refused.NoMemory
   no_memory i taken was = record { same = was.same; refuses = tt; fails = works_still i refused.NoMemory was.works (λ is. cc is) }
 
-  -- where what is held is lines, what is left was passed
+  -- why a reader at lines is refused for a record, once what is left of the source was passed
   pub why_passed : (r : RowReader S) (j : HeldInput S) (items : List LaneRow) (refusal : RecordRefusal) → r.course ≡ course.Lines
       → PassesRest left failed r.input (Ok tt) j → ReadRecord left failed lanes lent r items (Err refusal) → IsRefusedFor left failed lanes lent j (refusal_at r.count refusal)
   why_passed r j items (one.Record f) is passes read =
@@ -187,7 +193,7 @@ module _ {S : Type 0} (left : S → Option (List ℕ)) (failed : S → Bool) (la
   others course.Ended taken held rows other stands = ([], sym stands.0 ∙ sym (append-nil rows), refl)
   others (course.Refused fault) taken held rows other stands = absurd stands
 
-  -- all was taken
+  -- why a reader that is not at lines is refused for a record: all of its source was taken before
   pub why_at_end : (r : RowReader S) (items : List LaneRow) (refusal : RecordRefusal) → (r.course ≡ course.Lines → ⊥)
       → ReadRecord left failed lanes lent r items (Err refusal) → IsRefusedFor left failed lanes lent r.input (refusal_at r.count refusal)
   why_at_end r items (one.Record f) other read =
@@ -196,8 +202,9 @@ module _ {S : Type 0} (left : S → Option (List ℕ)) (failed : S → Bool) (la
       why_refused r r.input items rows fields has.taken more.0 f keeps has.input (has.all more.2) more.1 meant
   why_at_end r items one.NoMemory other read = let (rows, taken, keeps, input) = read in no_memory r.input taken input
 
-  -- ---- a row is told
+  -- ---- what `tell` leaves: one more row, or a refused source
 
+  -- the row is given and counted: the count saturates at `usize::MAX`, and there are fewer records (`most_bytes`)
   pub row_told : (r s : RowReader S) (items : List LaneRow) (row : LaneRow) → s.lanes ≡ r.lanes → s.input ≡ r.input → s.course ≡ r.course
       → s.count ≡ min (r.count + 1) 18446744073709551615 → ReadRecord left failed lanes lent r items (Ok row)
       → (row.0 < lanes) × GaveRows left failed lanes lent s (items ++ row ∷ [])
@@ -221,11 +228,13 @@ module _ {S : Type 0} (left : S → Option (List ℕ)) (failed : S → Bool) (la
         ),
       )
 
+  -- a refusal leaves the rows that were given before
   pub rows_before : (r : RowReader S) (items : List LaneRow) (refusal : RecordRefusal) → ReadRecord left failed lanes lent r items (Err refusal)
       → (rows : List Fields) × KeepsRows lanes r rows items
   rows_before r items (one.Record f) read = (read.0, read.2)
   rows_before r items one.NoMemory read = (read.0, read.2)
 
+  -- the source is refused: no row follows
   pub row_refused : (r s : RowReader S) (items : List LaneRow) (fault : RecordsFault) (rows : List Fields) → s.lanes ≡ r.lanes → s.count ≡ r.count
       → KeepsRows lanes r rows items → IsRefusedFor left failed lanes lent s.input fault → s.course ≡ course.Refused fault
       → GaveRows left failed lanes lent s items
@@ -247,11 +256,11 @@ module _ {S : Type 0} (left : S → Option (List ℕ)) (failed : S → Bool) (la
         taken = has.taken;
         input = has.input;
         stands = subst (λ k. StandsAfter k has.taken held (rows ++ more)) (sym ends)
-            (all, omega (arith, stands.2, length-append rows more, ap length of_line, one_line (last_of held)));
+            (all, omega (arith, stands.2, length-append rows more, ap length of_line, at_most_one_record (last_of held)));
         all = λ t. has.all (ap is_taken is);
       }
 
-  -- it has no byte
+  -- the last line has no byte: it is no record
   pub last_passed : (r s : RowReader S) (items : List LaneRow) → r.course ≡ course.LastLine → s.course ≡ course.Ended → s.input ≡ r.input → s.lanes ≡ r.lanes
       → s.count ≡ r.count → length (last_of (held_of r.input)) ≡ 0 → GaveRows left failed lanes lent r items → GaveRows left failed lanes lent s items
   last_passed r s items is ends input of_lanes count none gave =
@@ -259,7 +268,7 @@ module _ {S : Type 0} (left : S → Option (List ℕ)) (failed : S → Bool) (la
       let now = subst (λ rows. HasReadRows left failed lent s rows) (append-nil gave.0) (all_lines r s gave.0 [] is ends input (sym (no_line _ none)) has) in
       (gave.0, rows_kept r s gave.0 items of_lanes count gave.1, subst (λ k. HasReadTo left failed lent s k gave.0) (sym ends) now)
 
-  -- it is a record
+  -- the last line has a byte: it is a record
   pub last_told : (r s : RowReader S) (items : List LaneRow) (row : Result LaneRow RecordRefusal) → r.course ≡ course.LastLine → s.course ≡ course.Ended
       → s.input ≡ r.input → s.lanes ≡ r.lanes → s.count ≡ r.count → 0 < length (last_of (held_of r.input))
       → IsMeant r.lanes (fields_in (last_of (held_of r.input))) row → GaveRows left failed lanes lent r items → ReadRecord left failed lanes lent s items row
@@ -270,7 +279,9 @@ module _ {S : Type 0} (left : S → Option (List ℕ)) (failed : S → Bool) (la
       (all_lines r s gave.0 (fields ∷ []) is ends input (sym (some_line _ some)) has)
       (subst (λ n. IsMeant n fields row) gave.1.of_lanes meant)
 
-  -- of the same input
+  -- ---- `csv` reads on
+
+  -- a reader of the same input has read these records, if it stands after them
   has_read_as : (r s : RowReader S) (rows : List Fields) (taken : List ℕ) → s.input ≡ r.input → HasTaken left failed lent r.input taken
       → StandsAfter s.course taken (held_of r.input) rows → (is_taken s.course ≡ true → IsAtEnd (left r.input.source.now)) → HasReadRows left failed lent s rows
   has_read_as r s rows taken input was stands end = record {
@@ -280,14 +291,13 @@ module _ {S : Type 0} (left : S → Option (List ℕ)) (failed : S → Bool) (la
     all = subst (λ i. is_taken s.course ≡ true → IsAtEnd (left i.source.now)) (sym input) end;
   }
 
-  -- ---- `csv` reads on
-
   -- one more record was read of the bytes of another reader, and it means this
   abbrev pub ReadsOne : Records → Records → (Fields → Type 0) → Type 0
   ReadsOne old new means = (bytes : List ℕ) (rows : List Fields) → HasRead bytes old rows → (fields : Fields) × HasRead bytes new (rows ++ fields ∷ []) × means fields
 
   module _ (r s : RowReader S) (items : List LaneRow) (old : Box Records) (is : r.course ≡ course.Csv old) (input : s.input ≡ r.input) (of_lanes : s.lanes ≡ r.lanes)
       (count : s.count ≡ r.count) (gave : GaveRows left failed lanes lent r items) where
+    -- what was read by a reader whose records `csv` reads, and where it stands
     pub of_csv : HasReadRows left failed lent r gave.0
     of_csv = subst (λ k. HasReadTo left failed lent r k gave.0) is gave.2
 
@@ -297,6 +307,7 @@ module _ {S : Type 0} (left : S → Option (List ℕ)) (failed : S → Bool) (la
     keeps : KeepsRows lanes s gave.0 items
     keeps = rows_kept r s gave.0 items of_lanes count gave.1
 
+    -- `csv` has read one more record
     read_by_csv : (new : Box Records) (means : Fields → Type 0) → s.course ≡ course.Csv new → ReadsOne old.value new.value means
         → (fields : Fields) × HasReadRows left failed lent s (gave.0 ++ fields ∷ []) × means fields
     read_by_csv new means goes one =
@@ -311,12 +322,14 @@ module _ {S : Type 0} (left : S → Option (List ℕ)) (failed : S → Bool) (la
           next.2,
         )
 
+    -- that record means a row
     pub csv_told : (new : Box Records) (row : LaneRow) → s.course ≡ course.Csv new → row.0 < r.lanes
         → ReadsOne old.value new.value (λ fields. lanes_meaning r.lanes fields (Ok row)) → ReadRecord left failed lanes lent s items (Ok row)
     csv_told new row goes low one =
         let next = read_by_csv new (λ fields. lanes_meaning r.lanes fields (Ok row)) goes one in
         (gave.0, next.0, keeps, next.1, (subst (λ n. lanes_meaning n next.0 (Ok row)) gave.1.of_lanes next.2, subst (λ n. row.0 < n) gave.1.of_lanes low))
 
+    -- or it is refused, or a growth is
     pub csv_refused : (new : Box Records) (refusal : RecordRefusal) → s.course ≡ course.Csv new
         → ((f : RecordFault) → refusal ≡ one.Record f → ReadsOne old.value new.value (λ fields. lanes_meaning r.lanes fields (Err f)))
         → ReadRecord left failed lanes lent s items (Err refusal)
@@ -325,6 +338,7 @@ module _ {S : Type 0} (left : S → Option (List ℕ)) (failed : S → Bool) (la
         (gave.0, next.0, keeps, next.1, subst (λ n. lanes_meaning n next.0 (Err f)) gave.1.of_lanes next.2)
     csv_refused new one.NoMemory goes why = (gave.0, of_csv.taken, keeps, subst (λ i. HasTaken left failed lent i of_csv.taken) (sym input) of_csv.input)
 
+    -- or there is no more: all were read
     pub csv_ended : s.course ≡ course.Ended → ((bytes : List ℕ) (rows : List Fields) → HasRead bytes old.value rows → rows ≡ records_of bytes)
         → GaveRows left failed lanes lent s items
     csv_ended ends end =

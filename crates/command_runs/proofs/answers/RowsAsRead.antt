@@ -1,9 +1,10 @@
--- What `rows.rt` gives to the hub and tells at the end, by the rows that were read (of specs/inner/Rows).
+-- What `answers/rows.rt` gives to the hub and tells at the end, by the rows that were read (of specs/inner/ServedRows).
 use Rattle.std.proofs.Common.{Err, Global, IfErr, IfOk, IfSome, List, None, Ok, Option, Result, Some, String, [], ap, arith, get_or, length, map, refl, replicate, set, string_bytes, subst, suc, sym, true, zero, ◌+◌, ◌++◌, ◌≡◌, ◌≢◌, ◌∙◌, ◌∷◌, ℕ, Bool}
 use Rattle.std.specs.Borrow.{MutBor}
 use Rattle.std.specs.Io.KnownBytes.{IsAtEnd}
 use Rattle.std.specs.List.{AllZip, concat, range_with_len}
 use Rattle.std.proofs.lemmas.List.FromFn.{get_or-map-range_with_len, length-map-range_with_len}
+use Rattle.std.proofs.lemmas.List.{nil_from_length}
 use Rattle.std.proofs.lemmas.Slice.Zip.{AllZip-long}
 use Rattle.scan_core.specs.Answers.{Reads}
 use Rattle.lane_core.specs.declared.job.Plain.{Plain}
@@ -12,7 +13,7 @@ use Rattle.hub_core.specs.Serving.{served}
 use Rattle.hub_core.specs.Traffics.{Gives, HasRoom, IfLost, IsKept, IsServed, IsServedUpTo, with_more}
 use Rattle.hub_core.specs.declared.ended.Ended.{Ended}
 use Rattle.hub_core.specs.declared.ended.Ended.TheVariants as ended
-use Rattle.command_runs.specs.inner.Reports.{AreLinesOf}
+use Rattle.command_runs.specs.inner.AnswerLines.{AreLinesOf}
 use Rattle.command_runs.specs.answers.Reports.{IsReport}
 use Rattle.command_runs.specs.inner.RowReaders.{GaveNext, GaveRows, GivesNextRow, HasReadRows, HasReadTo, IsRefusedFor, StandsAfter, is_taken}
 use Rattle.command_runs.specs.inner.HeldInputs.{held_of}
@@ -23,7 +24,7 @@ use Rattle.command_runs.specs.answers.Rows.{AnswersRows, RefusesRows}
 use Rattle.command_runs.specs.Runs.{TellsFault}
 use Rattle.command_runs.specs.declared.answers.rows.RowsFault.{RowsFault}
 use Rattle.command_runs.specs.declared.answers.rows.RowsFault.TheVariants as rows_fault
-use Rattle.command_runs.specs.inner.Rows.{HasGiven, IsToldOf, is_ended}
+use Rattle.command_runs.specs.inner.ServedRows.{HasGiven, IsToldOf, is_ended}
 use Rattle.csv_records.specs.input.Records.{AreItems, Fields, Refuses, Takes, records_of}
 use Rattle.csv_records.specs.lanes.Feeds.{LaneRow, feed_of, feeds_of, lanes_meaning}
 use Rattle.command_runs.specs.declared.answers.row_reader.Course.{Course}
@@ -39,8 +40,8 @@ no_rows_from : (first n : ℕ) → replicate n [] ≡ map (λ lane. feed_of lane
 no_rows_from first zero = refl
 no_rows_from first (suc n) = ap (λ t. [] ∷ t) (no_rows_from (first + 1) n)
 
-pub no_rows : (lanes : ℕ) → replicate lanes [] ≡ feeds_of lanes []
-no_rows lanes = no_rows_from 0 lanes
+pub no_records_no_rows : (lanes : ℕ) → replicate lanes [] ≡ feeds_of lanes []
+no_records_no_rows lanes = no_rows_from 0 lanes
 
 -- and the report is empty
 pub no_report : (year : Terms) (lanes : ℕ) (text : List ℕ) → text ≡ [] → IsReport year (feeds_of lanes []) text
@@ -71,11 +72,11 @@ row_given left failed start old new given brought row texts gives was =
       },
     )
 
--- none is
-pub none_given : {S : Type 0} (left : S → Option (List ℕ)) (failed : S → Bool) (start old new : RecordRows S) (given : List (List (List ℕ)))
+-- no row is given, and what was given and brought is the same
+pub no_row_given : {S : Type 0} (left : S → Option (List ℕ)) (failed : S → Bool) (start old new : RecordRows S) (given : List (List (List ℕ)))
     (brought : List (List Plain)) → new.texts ≡ old.texts → GivesNextRow left failed old.rows None new.rows → HasGiven left failed start old given brought
     → HasGiven left failed start new given brought
-none_given left failed start old new given brought texts gives was = record {
+no_row_given left failed start old new given brought texts gives was = record {
   items = was.items;
   gave = gives start.rows.lanes start.rows.input.source was.items was.gave;
   fed = was.fed;
@@ -117,13 +118,14 @@ module _ {S : Type 0} (left : S → Option (List ℕ)) (failed : S → Bool) (la
   pub same_source : (items : List LaneRow) → GaveRows left failed lanes lent r items → r.input.source.ghost_name ≡ lent.ghost_name
   same_source items gave = source_by_course gave.0 r.course gave.2
 
-  -- ---- what is told where not all rows are answered
-
+  -- whether a next row was given or not, some rows were
   pub gave_any : (items : List LaneRow) (next : Option LaneRow) → GaveNext left failed lanes lent next r items → (all : List LaneRow) × GaveRows left failed lanes lent r all
   gave_any items None gave = (items, gave)
   gave_any items (Some row) gave = (items ++ row ∷ [], gave.1)
 
-  -- no read has failed, and none is told
+  -- ---- what is told if not all rows are answered
+
+  -- no read has failed, and no failed read is told
   told_as : (rows : List Fields) (told : Result (String Global) RowsFault) → HasReadRows left failed lent r rows → (told ≡ Err (rows_fault.Records refused.ReadFault) → ⊥)
       → IfOk told (λ lines. (string_bytes lines ≡ []) × Takes (lanes_meaning lanes) (λ items. items ≡ []) (left lent.now) (left r.input.source.now))
       → IfErr told (RefusesRows lanes (left lent.now) (left r.input.source.now)) → IsToldOf left failed lanes lent r told
@@ -134,9 +136,11 @@ module _ {S : Type 0} (left : S → Option (List ℕ)) (failed : S → Bool) (la
     fault = λ none. (λ e. absurd (other e), λ t. absurd (true≢false (sym t ∙ has.input.works ∙ none)));
   }
 
+  -- a growth may be refused at any time
   pub told_memory : (rows : List Fields) → HasReadRows left failed lent r rows → IsToldOf left failed lanes lent r (Err (rows_fault.Records refused.NoMemory))
   told_memory rows has = told_as rows (Err (rows_fault.Records refused.NoMemory)) has (λ e. cc e) tt tt
 
+  -- the source was refused
   pub told_refused : (items : List LaneRow) (fault : RecordsFault) → r.course ≡ course.Refused fault → GaveRows left failed lanes lent r items
       → IsToldOf left failed lanes lent r (Err (rows_fault.Records fault))
   told_refused items fault is gave =
@@ -155,23 +159,24 @@ module _ {S : Type 0} (left : S → Option (List ℕ)) (failed : S → Bool) (la
     pub rows_at_end : HasReadRows left failed lent r gave.0
     rows_at_end = subst (λ k. HasReadTo left failed lent r k gave.0) is gave.2
 
+    -- each record that was counted gave a row
     long : length items ≡ r.count
     long = omega (arith, AllZip-long _ gave.0 items gave.1.means, gave.1.count)
 
+    -- if there is none, the report is empty
     pub told_nothing : (text : String Global) → string_bytes text ≡ [] → r.count ≡ 0 → IsToldOf left failed lanes lent r (Ok text)
     told_nothing text empty none =
-        told_as gave.0 (Ok text) rows_at_end (λ e. cc e) (empty, taken_at_end items (λ items. items ≡ []) (ap is_ended is) gave (nil items (long ∙ none))) tt
-      where
-        nil : (items : List LaneRow) → length items ≡ 0 → items ≡ []
-        nil [] e = refl
-        nil (row ∷ items) e = absurd (omega (arith, e))
+        told_as gave.0 (Ok text) rows_at_end (λ e. cc e) (empty, taken_at_end items (λ items. items ≡ []) (ap is_ended is) gave (nil_from_length items (long ∙ none))) tt
 
+    -- if there is one, a thread may be why it has no answer
     pub told_thread : (r.count ≡ 0 → ⊥) → IsToldOf left failed lanes lent r (Err rows_fault.NoThread)
     told_thread some =
         told_as gave.0 (Err rows_fault.NoThread) rows_at_end (λ e. cc e) tt
         (taken_at_end items (λ items. items ≢ []) (ap is_ended is) gave (λ none. some (sym long ∙ ap length none)))
 
--- once all were read and brought, the texts are the report
+-- ---- what was served, and what `next` gives
+
+-- once all rows were read and brought, the texts are the report
 pub reported : (year : Terms) (lanes : ℕ) (items : List LaneRow) (given : List (List (List ℕ))) (brought : List (List Plain)) (texts : List (List ℕ))
     → AnswersAreRead → given ≡ feeds_of lanes items → AreLinesOf brought texts → brought ≡ served year given
     → IsReport year (feeds_of lanes items) (concat texts)
@@ -179,7 +184,7 @@ reported year lanes items given brought texts law fed lines all =
     let read = law year given lines.0 (subst (λ lists. AllZip AreAnswersOf lists lines.0) all lines.1) in
     (lines.0, subst (λ feeds. AllZip (λ rows answers. Reads rows year answers) feeds lines.0) fed read, ap concat lines.2)
 
--- if a row is given, it is the next one
+-- what `next` promises of a row, if it gives one
 pub gives_if : {S : Type 0} (left : S → Option (List ℕ)) (failed : S → Bool) (old new : RecordRows S) (next : Option LaneRow)
     → new.texts ≡ old.texts → GivesNextRow left failed old.rows next new.rows
     → IfSome next (λ r. Gives (λ start s given brought. HasGiven left failed start s given brought) r old new)
@@ -198,7 +203,9 @@ rows_of_end left failed year start now ended.Done served lost = let was = (serve
 rows_of_end left failed year start now ended.NoMemory served lost = let was = (served tt).2 in (was.items, was.gave)
 rows_of_end left failed year start now (ended.WaitFailed fault) served lost = let was = (served tt).2 in (was.items, was.gave)
 
--- how the rows of a source that was lent are answered
+-- ---- what `answer_records` tells
+
+-- how the rows of a source that was lent are answered: what `answer_records` promises, in the same words
 pub record HasAnswered {S : Type 0} (left : S → Option (List ℕ)) (failed : S → Bool) (lanes : ℕ) (year : Terms) (was now : S) (told : Result (String Global) RowsFault)
     : Type 0 where
   pub report : IfOk told (λ lines. AnswersRows lanes year (left was) (left now) (string_bytes lines))
@@ -211,6 +218,7 @@ module _ {S : Type 0} (left : S → Option (List ℕ)) (failed : S → Bool) (la
       → failed r.input.source.now ≡ failed lent.now
   ended_works items k same is gave = (all_read left failed lanes lent r gave.0 k same is (subst (λ k. HasReadTo left failed lent r k gave.0) same gave.2)).0.input.works
 
+  -- all rows were answered, and the lines joined
   pub answered_all : (items : List LaneRow) (lines : String Global) (texts : List (List ℕ)) → GaveRows left failed lanes lent r items → is_ended r.course ≡ true
       → IsReport year (feeds_of lanes items) (concat texts) → string_bytes lines ≡ concat texts → HasAnswered left failed lanes year lent.now r.input.source.now (Ok lines)
   answered_all items lines texts gave is report same = record {
@@ -220,6 +228,7 @@ module _ {S : Type 0} (left : S → Option (List ℕ)) (failed : S → Bool) (la
     fault = λ none. (λ e. cc e, λ t. absurd (true≢false (sym t ∙ ended_works items r.course refl is gave ∙ none)));
   }
 
+  -- or the memory to join them was refused
   pub not_joined : (items : List LaneRow) → GaveRows left failed lanes lent r items → is_ended r.course ≡ true
       → HasAnswered left failed lanes year lent.now r.input.source.now (Err (rows_fault.Records refused.NoMemory))
   not_joined items gave is = record {
@@ -228,6 +237,7 @@ module _ {S : Type 0} (left : S → Option (List ℕ)) (failed : S → Bool) (la
     fault = λ none. (λ e. cc e, λ t. absurd (true≢false (sym t ∙ ended_works items r.course refl is gave ∙ none)));
   }
 
+  -- or not all were answered
   pub answered_as_told : (told : Result (String Global) RowsFault) → IsToldOf left failed lanes lent r told
       → HasAnswered left failed lanes year lent.now r.input.source.now told
   answered_as_told (Ok lines) is = record {

@@ -5,6 +5,7 @@ use Rattle.command_runs.specs.inner.HeldInputs.{HasTaken, StopsReading, TakesMor
 use Rattle.command_runs.specs.declared.answers.held_input.HeldInput.{HeldInput}
 
 module _ {S : Type 0} (left : S → Option (List ℕ)) (failed : S → Bool) where
+  -- nothing, and one piece after another
   pub takes_none : (i : HeldInput S) → TakesMore left failed i [] i
   takes_none i lent taken was = subst (HasTaken left failed lent i) (sym (append-nil taken)) was
 
@@ -13,7 +14,7 @@ module _ {S : Type 0} (left : S → Option (List ℕ)) (failed : S → Bool) whe
   takes_both i j k front rest first second lent taken was =
       subst (HasTaken left failed lent k) (append_assoc taken front rest) (second lent (taken ++ front) (first lent taken was))
 
-  -- nothing depends on more than the source and the room
+  -- what was taken depends on nothing of an input but its source and its room
   pub takes_as : (i j k : HeldInput S) (more : List ℕ) → k.source ≡ j.source → k.room ≡ j.room → TakesMore left failed i more j → TakesMore left failed i more k
   takes_as i j k more source room takes lent taken was =
       let now = takes lent taken was in
@@ -24,6 +25,7 @@ module _ {S : Type 0} (left : S → Option (List ℕ)) (failed : S → Bool) whe
         works = rw source now.works;
       }
 
+  -- a fault after a piece is one of the whole
   pub stops_later : (i j k : HeldInput S) (more : List ℕ) (fault : InputFault) → TakesMore left failed i more j → StopsReading left failed j fault k
       → StopsReading left failed i fault k
   stops_later i j k more fault takes stops lent taken was = stops lent (taken ++ more) (takes lent taken was)

@@ -1,7 +1,7 @@
 -- The lanes of a turn, as their rows are given and their deliveries brought (of `waiting.rt` and `AreWaiting` of specs/inner/Came).
 use Rattle.command_runs.specs.declared.live.pending.PendingReply.TheVariants as pending
 use Rattle.command_runs.proofs.live.Words.{AllZip, AreEnded, AreWaiting, HasMoved, IsAllBrought, IsPending, IsReady, IsWaiting, List, PendingReply, Plain, Reply, Some, Waiting, [], ap, append-nil, append_assoc, arith, get_or, get_or-map, length, length-append, length-set, refl, set, slice_get, slice_get_within, sym, vec_capacity, zip_weaker, ℕ, ◌++◌, ◌+◌, ◌<◌, ◌∙◌, ◌≡◌, ◌≤◌}
-use Rattle.command_runs.proofs.live.ListsGrow.{GrowsAt, Grows, got_grown, set_each}
+use Rattle.command_runs.proofs.live.ListsGrow.{GrowsAt, EachGrows, got_grown, set_each}
 
 -- the lanes of a turn have changed, and its first rows have not
 abbrev pub FirstsStay : List Waiting → List Waiting → Type 0
@@ -11,7 +11,7 @@ pub firsts_same : (lanes : List Waiting) → FirstsStay lanes lanes
 firsts_same lanes = (omega arith, λ l u at. (u, at, refl))
 
 -- pending replies stay what they are if more rows are given in the same turn
-pub still_pending : (old new : List (List (List ℕ))) (lanes later : List Waiting) → Grows old new → FirstsStay lanes later → (rs : List PendingReply) (ys : List Reply)
+pub still_pending : (old new : List (List (List ℕ))) (lanes later : List Waiting) → EachGrows old new → FirstsStay lanes later → (rs : List PendingReply) (ys : List Reply)
     → AllZip (IsPending old lanes) rs ys → AllZip (IsPending new later) rs ys
 still_pending old new lanes later more stay = zip_weaker (IsPending old lanes) (IsPending new later) each
   where
@@ -21,20 +21,15 @@ still_pending old new lanes later more stay = zip_weaker (IsPending old lanes) (
     each (pending.Notice n) y is = is
 
 module _ {n : ℕ} {given : List (List (List ℕ))} {brought : List (List Plain)} {lanes : List Waiting} (a : AreWaiting n given brought lanes) where
-  -- as many were brought of each lane as were given
+  -- `IsAllBrought`, of one lane
   even_at : IsAllBrought given brought → (l : ℕ) → l < length lanes → length (get_or brought l []) ≡ length (get_or given l [])
   even_at even l low = sym (get_or-map (λ xs. length xs) brought l [] 0 (omega (arith, a.count, a.deliveries, low))) ∙ ap (λ ns. get_or ns l 0) even
       ∙ get_or-map (λ xs. length xs) given l [] 0 (omega (arith, a.count, a.rows, low))
 
   -- each pending reply has its delivery then
   pub ready : IsAllBrought given brought → (r : PendingReply) (y : Reply) → IsPending given lanes r y → IsReady lanes r
-  ready even (pending.Row l number) y (widths, is, got, low, late) = (
-    low,
-    λ w at. let i = a.each l w at in (
-      late w at,
-      omega (arith, slice_get_within (get_or given l []) number widths got, even_at even l low, i.first, ap length i.whole, length-append i.written w.deliveries.items),
-    ),
-  )
+  ready even (pending.Row l number) y (widths, is, got, low, late) =
+      (low, λ w at. let i = a.each l w at in (late w at, omega (arith, slice_get_within (get_or given l []) number widths got, even_at even l low, i.first, ap length i.whole, length-append i.written w.deliveries.items)))
   ready even (pending.Notice n) y is = tt
 
   -- the turn has ended
@@ -61,10 +56,8 @@ module _ {n : ℕ} {given : List (List (List ℕ))} {brought : List (List Plain)
   module _ (lane : ℕ) (w v : Waiting) (at : slice_get lanes lane ≡ Some w) where
     -- a lane changes, and not its first row of the turn
     pub same_first : v.first ≡ w.first → FirstsStay lanes (set lanes lane v)
-    same_first first = (
-      omega (arith, length-set lanes lane v),
-      set_each (λ l u. (x : Waiting) × (slice_get lanes l ≡ Some x) × (u.first ≡ x.first)) lanes lane v (w, at, first) (λ l u other got. (u, got, refl)),
-    )
+    same_first first =
+        (omega (arith, length-set lanes lane v), set_each (λ l u. (x : Waiting) × (slice_get lanes l ≡ Some x) × (u.first ≡ x.first)) lanes lane v (w, at, first) (λ l u other got. (u, got, refl)))
 
     -- by rows and deliveries
     pub moved : (rows : List (List ℕ)) (more : List Plain) (new : List (List (List ℕ))) (all : List (List Plain)) → GrowsAt lane rows given new

@@ -6,14 +6,14 @@ use Rattle.command_runs.specs.declared.live.record.Record.TheVariants as read
 use Rattle.command_runs.proofs.live.Words.{AllZip, AreOfRows, AreWaiting, Event, HasCome, HasMoved, HasRoom, Held, HoldsRecord, IsOneMore, IsPending, IsRecord, KeepsReplies, List, Meant, NoMemory, Notice, Option, Past, PendingReply, Plain, Record, Row, Some, TakesLines, Turn, Waiting, WriteFault, [], ap, append_assoc, arith, beside-append, cases_eq, cons_option, counts, eq-eqb, get_or, got_after, le-ltb, length, length-append, line_meant, lines_are_pieces, lt-ltb, most_rows, ne_eqb, numbers_from, one_later, refl, replies_from, set, slice_get, slice_get_within, subst, sym, was_read, was_written, with_more, without_line, ℕ, ⊎_elim, ◌++◌, ◌<◌, ◌∙◌, ◌∷◌, ◌≡◌, ◌≢◌, ◌≤◌}
 use Rattle.command_runs.proofs.live.LineMeanings.{record_meant}
 use Rattle.command_runs.proofs.live.LanesOfTurn.{FirstsStay, firsts_same, moved, same_first, still_pending}
-use Rattle.command_runs.proofs.live.ListsGrow.{GrowsAt, Grows, adds_none, adds_one, got_grown, grown, grows_same}
-use Rattle.command_runs.proofs.live.RepliesGrow.{numbers_more, replies_more}
+use Rattle.command_runs.proofs.live.ListsGrow.{GrowsAt, EachGrows, adds_none, adds_one, got_grown, grown, grows_same}
+use Rattle.command_runs.proofs.live.RepliesGrow.{numbers_after_more, replies_more}
 
 -- what is so of more rows and deliveries is so of these
-of_fewer : (p : Past) (given : List (List (List ℕ))) (brought : List (List Plain)) → Grows p.given given → Grows p.brought brought
+of_fewer : (p : Past) (given : List (List (List ℕ))) (brought : List (List Plain)) → EachGrows p.given given → EachGrows p.brought brought
     → AreOfRows (record p { given = given; brought = brought }) → AreOfRows p
-of_fewer p given brought more others are lane number widths x got came =
-    are lane number widths x (got_grown p.given given lane number widths more got) (got_grown p.brought brought lane number x others came)
+of_fewer p given brought rows_grow brought_grow are lane number widths x got came =
+    are lane number widths x (got_grown p.given given lane number widths rows_grow got) (got_grown p.brought brought lane number x brought_grow came)
 
 -- ---- the replies to a line
 
@@ -56,7 +56,7 @@ spent_for p lanes lane row all = λ m means. rw (means.0, le-ltb (counts p.given
 -- what is kept of replies stays in the same turn, if no line is taken and nothing written
 pub still_kept : {p : Past} {lanes : List Waiting} {rs : List PendingReply} {h : Held} (k : KeepsReplies p lanes rs h) (events : List Event)
     (brought : List (List Plain)) (later : List Waiting) (now : Held) → TakesLines (was_read events) k.taken now → was_written events ≡ was_written p.events
-    → FirstsStay lanes later → Grows p.brought brought → KeepsReplies (record p { events = events; brought = brought }) later rs now
+    → FirstsStay lanes later → EachGrows p.brought brought → KeepsReplies (record p { events = events; brought = brought }) later rs now
 still_kept {p} {lanes} {rs} k events brought later now lines same stay more = record {
   taken = k.taken;
   done = k.done;
@@ -71,7 +71,7 @@ still_kept {p} {lanes} {rs} k events brought later now lines same stay more = re
 module _ (p : Past) (t : Turn) (c : HasCome p t) where
   -- a line was taken
   came_line : (lanes : List Waiting) (given : List (List (List ℕ))) (all rs : List PendingReply) (count : ℕ) (r : Record) → all ≡ t.replies ++ rs
-      → HoldsRecord (length t.lanes) t.lines count r → AreWaiting p.terms.lanes given p.brought lanes → Grows p.given given → FirstsStay t.lanes lanes
+      → HoldsRecord (length t.lanes) t.lines count r → AreWaiting p.terms.lanes given p.brought lanes → EachGrows p.given given → FirstsStay t.lanes lanes
       → IsFor p r given lanes rs → HasCome (record p { given = given }) (record t { lanes = lanes; replies = all; lines = without_line t.lines })
   came_line lanes given all rs count r is found waiting more stay for =
       let meant = line_meant p.terms.lanes in
@@ -92,7 +92,7 @@ module _ (p : Past) (t : Turn) (c : HasCome p t) where
               replied = replies_more meant k.taken (line.0 ∷ []) (counts p.given) k.numbers ∙ ap (λ ys. ys ++ new) k.replied ∙ append_assoc k.done k.left new;
               pending = rw is (beside-append (IsPending given lanes) t.replies rs k.left new
                   (still_pending p.given given t.lanes lanes more stay t.replies k.left k.pending) are.0);
-              numbers = numbers_more meant k.taken (line.0 ∷ []) (counts p.given) k.numbers ∙ are.1;
+              numbers = numbers_after_more meant k.taken (line.0 ∷ []) (counts p.given) k.numbers ∙ are.1;
               answers = λ h. k.answers (fewer h);
             };
         stands = λ h. c.stands (fewer h);
@@ -109,14 +109,15 @@ module _ (p : Past) (t : Turn) (c : HasCome p t) where
         → length (get_or brought lane []) ≤ counts p.given lane → HasCome (record p { brought = brought }) (record t { lanes = set t.lanes lane v })
     came_lane more brought a m behind =
         let i = c.waiting.each lane w at in
-        let others = grown lane more p.brought brought a in
+        let grows = grown lane more p.brought brought a in
         record {
           waiting = moved c.waiting lane w v at [] more p.given brought (adds_none lane p.given) a m (omega (arith, m.room, m.next, m.first, i.room)) behind;
           keeps = λ on. let k = c.keeps on in
-              still_kept k p.events brought (set t.lanes lane v) t.lines k.lines refl (same_first c.waiting lane w v at m.first) others;
-          stands = λ h. c.stands (of_fewer p p.given brought (grows_same p.given) others h);
+              still_kept k p.events brought (set t.lanes lane v) t.lines k.lines refl (same_first c.waiting lane w v at m.first) grows;
+          stands = λ h. c.stands (of_fewer p p.given brought (grows_same p.given) grows h);
         }
 
+    -- by room alone
     pub came_roomier : HasMoved 0 [] w v → HasCome p (record t { lanes = set t.lanes lane v })
     came_roomier m = came_lane [] p.brought (adds_none lane p.brought) m (c.waiting.each lane w at).behind
 

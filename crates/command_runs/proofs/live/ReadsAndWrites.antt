@@ -8,8 +8,8 @@ use Rattle.command_runs.proofs.live.LogGrows.{answers_begin, front_more, prompt_
 use Rattle.command_runs.proofs.live.RepliesGrow.{replies_more}
 
 -- it has stopped for no fault of its wire
-pub no_fault : (stopped : Option LiveFault) → MayStillWrite stopped → (stopped ≢ Some ReadFault) × (stopped ≢ Some WriteFault)
-no_fault stopped opened =
+pub no_wire_stop : (stopped : Option LiveFault) → MayStillWrite stopped → (stopped ≢ Some ReadFault) × (stopped ≢ Some WriteFault)
+no_wire_stop stopped opened =
     ⊎_elim (λ (e : stopped ≡ None). (λ is. cc, λ is. cc)) (λ (e : stopped ≡ Some NoMemory). (λ is. cc, λ is. cc)) opened
 
 -- the line of a pending reply answers it, if deliveries are of the rows of their numbers
@@ -68,8 +68,9 @@ module _ (p : Past) (t : Turn) (c : HasCome p t) where
         }
 
   module _ (opened : MayStillWrite t.stopped) where
+    -- no write has failed, so the replies are kept
     pub keeps : KeepsReplies p t.lanes t.replies t.lines
-    keeps = c.keeps (no_fault t.stopped opened).1
+    keeps = c.keeps (no_wire_stop t.stopped opened).1
 
     -- a write failed
     pub came_part : (texts pieces : List (List ℕ)) (rest : List ℕ) → AllZip (TellsPending p.terms t.lanes) t.replies texts → concat pieces ++ rest ≡ concat texts
@@ -96,10 +97,11 @@ module _ (p : Past) (t : Turn) (c : HasCome p t) where
         numbers = keeps.numbers;
         answers = λ are. rw (written_all p.events pieces, is) (turn_answers keeps texts says are);
       };
-      stands = wrote_some keeps t.stopped texts pieces [] says (append-nil (concat pieces) ∙ is) (no_fault t.stopped opened).0;
+      stands = wrote_some keeps t.stopped texts pieces [] says (append-nil (concat pieces) ∙ is) (no_wire_stop t.stopped opened).0;
     }
 
     module _ (empty : t.replies ≡ []) (none : held_line t.lines ≡ None) (going : t.lines.has_ended ≡ false) where
+      -- all lines that had ended were answered, if no line is held and no reply pending
       whole_answered : AreOfRows p → AnsweredWhole p.terms.lanes p.terms.form p.terms.year p.events
       whole_answered are =
           let taken = keeps.taken in
@@ -125,7 +127,7 @@ module _ (p : Past) (t : Turn) (c : HasCome p t) where
               front = front_more L (replies_in p.terms) p.events (Read bytes) s.front
                   (begins kept kept.done (was_written now) (all_done kept empty) (kept.answers are));
               ended = λ e. (p.events, [], ap (λ bs. p.events ++ Read bs ∷ []) (nil_from_length bytes (eqb-true (length bytes) 0 e)), refl);
-              answered = λ e. absurd ((no_fault t.stopped opened).0 e);
+              answered = λ e. absurd ((no_wire_stop t.stopped opened).0 e);
             };
           }
 

@@ -10,7 +10,7 @@ use Rattle.command_runs.proofs.live.LineMeanings.{row_meant}
 abbrev IsShort : List ℕ → Type 0
 IsShort line = length line ≤ most_line
 
--- rows are what is meant
+-- that rows are meant: each record is a row, and none a message or refused
 abbrev meants : List LaneRow → List Meant
 meants rows = map (λ row. Ok row) rows
 
@@ -23,6 +23,7 @@ module _ (lanes : ℕ) where
   MeanRows texts ms rows = Each IsShort (filter has_byte texts) → AreItems (lanes_meaning lanes) (map fields_in (filter has_byte texts)) rows
       → (ms ≡ meants rows) × Each IsLow rows
 
+  -- one line more, and all
   text_more : MessagesAreNoRows → (text : List ℕ) (texts : List (List ℕ)) (ms : List Meant) (rows : List LaneRow) → ((later : List LaneRow) → MeanRows texts ms later)
       → MeanRows (text ∷ texts) (cons_option (text_meant lanes text) ms) rows
   text_more law [] texts ms rows mean short are = mean rows short are
@@ -40,9 +41,9 @@ module _ (lanes : ℕ) where
 
 -- ---- their answers
 
--- what stands beside a lane
-abbrev of_lane : {X : Type 0} → ℕ → List (ℕ × X) → List X
-of_lane lane xs = map (λ x. x.1) (filter (λ x. x.0 == lane) xs)
+-- what stands beside a lane: `feed_of`, of any items
+abbrev beside_lane : {X : Type 0} → ℕ → List (ℕ × X) → List X
+beside_lane lane xs = map (λ x. x.1) (filter (λ x. x.0 == lane) xs)
 
 -- no lane has more rows than numbers are left
 abbrev FitNumbers : ℕ → Numbers → List LaneRow → Type 0
@@ -51,15 +52,13 @@ FitNumbers lanes next rows = (l : ℕ) → l < lanes → next l + length (feed_o
 -- a row's number is left, and so are those of the rows after it
 fits_rest : (lanes : ℕ) (next : Numbers) (row : LaneRow) (rows : List LaneRow) → row.0 < lanes → FitNumbers lanes next (row ∷ rows)
     → (next row.0 < most_rows) × FitNumbers lanes (one_later row.0 next) rows
-fits_rest lanes next row rows low fits = (
-  (let all = fits row.0 low in grind (arith, nat_tests)),
-  λ l small. let all = fits l small in grind (arith, nat_tests),
-)
+fits_rest lanes next row rows low fits =
+    ((let all = fits row.0 low in grind (arith, nat_tests)), λ l small. let all = fits l small in grind (arith, nat_tests))
 
 -- of a lane these are the answers to its rows, and its lines are theirs from its next number on
 abbrev LaneIsAnswered : Terms → Numbers → List LaneRow → List LaneLine → List (ℕ × Answer) → ℕ → Type 0
-LaneIsAnswered year next rows lines answers l = Reads (feed_of l rows) year (of_lane l answers)
-    × (concat (feed_of l lines) ≡ lines_from l (next l) (of_lane l answers))
+LaneIsAnswered year next rows lines answers l = Reads (feed_of l rows) year (beside_lane l answers)
+    × (concat (feed_of l lines) ≡ lines_from l (next l) (beside_lane l answers))
 
 -- a row before others
 one_first : (year : Terms) (next : Numbers) (row : LaneRow) (rows : List LaneRow) (text : List ℕ) (lines : List LaneLine) (a : Answer)
@@ -103,7 +102,7 @@ module _ (lanes : ℕ) (year : Terms) where
   module _ (rows : List LaneRow) (texts : List (List ℕ)) (o : AreOrdered year (λ lane. 0) rows texts) where
     -- what is said of this many lanes, from the first on, and their lines are those of the report
     abbrev said : ℕ → ℕ → List (List Answer)
-    said first n = map (λ l. of_lane l o.answers) (range_with_len first n)
+    said first n = map (λ l. beside_lane l o.answers) (range_with_len first n)
 
     reported : (first n : ℕ) → AllZip (λ rows read. Reads rows year read) (map (λ l. feed_of l rows) (range_with_len first n)) (said first n)
         × (concat (map concat (map (λ l. feed_of l o.lines) (range_with_len first n))) ≡ concat (lane_lines first (said first n)))

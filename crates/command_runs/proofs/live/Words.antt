@@ -1,4 +1,4 @@
--- Names that the proofs of `live` share.
+-- Names of definitions, of std and of other crates that the proofs of `live` use, so that most of them need one list of names.
 pub use Rattle.command_runs.specs.answers.Reports.{lane_lines, line_of, lines_from}
 pub use Rattle.command_runs.specs.declared.live.fault.LiveFault.TheVariants.{NoMemory, ReadFault, WriteFault}
 pub use Rattle.command_runs.specs.declared.live.fault.LiveFault.{LiveFault}
@@ -12,7 +12,7 @@ pub use Rattle.command_runs.specs.declared.live.waiting.Waiting.{Waiting}
 pub use Rattle.command_runs.specs.inner.Came.{AreOfRows, AreWaiting, HasCome, HasLived, IsPending, IsReady, IsReplyTo, IsWaiting, KeepsReplies, Past, Stands, TakesLine, TellsPending, Turn, after_line, counts, past_from, replies_in, turn_of}
 pub use Rattle.command_runs.specs.inner.LiveEnds.{live_fault}
 pub use Rattle.command_runs.specs.inner.Meaning.{HoldsRecord, IsRecord}
-pub use Rattle.command_runs.specs.inner.Replies.{numbers_after_lines, numbers_from}
+pub use Rattle.command_runs.specs.inner.NextNumbers.{numbers_after_lines, numbers_from}
 pub use Rattle.command_runs.specs.inner.Stops.{MayStillWrite, StopsFor}
 pub use Rattle.command_runs.specs.inner.Turns.{AreEnded, AreFresh, HasMoved, IsEnded, IsFresh, IsOneMore}
 pub use Rattle.command_runs.specs.live.Answering.{AnswersBy, BeginsBy, IsFrontBy, IsPromptBy, whole_lines}
@@ -43,7 +43,7 @@ pub use Rattle.memchr.specs.Find.{IsFirstByte, is_byte}
 pub use Rattle.message_core.specs.Heads.{is_message}
 pub use Rattle.scan_core.specs.Answers.{IsAnswer, Reads}
 pub use Rattle.scan_core.specs.declared.answer.Answer.{Answer}
-pub use Rattle.std.proofs.Common.{All, Bool, Err, Global, List, None, Ok, Option, Result, Some, Vec, [], ap, append-nil, append_assoc, arith, cond, drop, false, get_or, inl, inr, is_none, is_some, length, length-append, length-drop, map, nat_eq, nat_lt, refl, replicate, set, string_bytes, subst, suc, sym, take, true, vec_capacity, zero, ℕ, ⊎_elim, ◌&&◌, ◌++◌, ◌+◌, ◌-◌, ◌<◌, ◌==◌, ◌∙◌, ◌∷◌, ◌≡◌, ◌≢◌, ◌≤◌, ◌⊎◌}
+pub use Rattle.std.proofs.Common.{All, Bool, Err, Global, List, None, Ok, Option, Result, Some, Vec, [], ap, append-nil, append_assoc, arith, cond, drop, false, get_or, inl, inr, is_none, length, length-append, map, nat_eq, nat_lt, refl, replicate, set, string_bytes, subst, suc, sym, take, true, vec_capacity, zero, ℕ, ⊎_elim, ◌&&◌, ◌++◌, ◌+◌, ◌-◌, ◌<◌, ◌==◌, ◌∙◌, ◌∷◌, ◌≡◌, ◌≢◌, ◌≤◌, ◌⊎◌}
 pub use Rattle.std.proofs.Math.Seq.{take-append_seam}
 pub use Rattle.std.proofs.lemmas.Bool.Decides.{nat_tests}
 pub use Rattle.std.proofs.lemmas.Bool.{and_parts, cases_Bool, cases_eq, cases_lt, cond_both, eq-eqb, eqb-true, false_from_ne_true, false≢true, le-ltb, lt-ltb, ltb-true, ne_eqb}
@@ -53,7 +53,7 @@ pub use Rattle.std.proofs.lemmas.List.Folds.{concat-append}
 pub use Rattle.std.proofs.lemmas.List.FromFn.{get_or-map-range_with_len, length-map-range_with_len}
 pub use Rattle.std.proofs.lemmas.List.Splits.{join_with_byte-slice_split, length-slice_split, slice_split_first, slice_split_none}
 pub use Rattle.std.proofs.lemmas.List.Sums.{fails_before_first, position_or_len_is}
-pub use Rattle.std.proofs.lemmas.List.{drop_all, get_or-map, get_or-set_other, length-replicate, length-set, nil_from_length, take_all, take_more}
+pub use Rattle.std.proofs.lemmas.List.{drop_all, get_or-map, get_or-set_other, length-replicate, length-set, nil_from_length, take_more}
 pub use Rattle.std.proofs.lemmas.Option.{get_or_from_slice_get, same_Some, slice_get-get_or, slice_get_read, slice_get_within}
 pub use Rattle.std.proofs.lemmas.Result.{IfOk-from_err, on_ok_weaker}
 pub use Rattle.std.specs.List.{AllByRecursion as Each, AllZip, after_first, before_first, concat, cons_option, filter, filter_map, join_with_byte, onto_first, position_or_len, range_with_len, slice_get}

@@ -1,4 +1,4 @@
--- The report: the answers to the rows of each lane, one line each.
+-- The report: the answers to the rows of each lane, one line each (`answers/report.rt`).
 use Rattle.std.specs.Prelude.{◌≡◌, ◌+◌, ◌++◌, ℕ, List, [], ◌∷◌}
 use Rattle.std.specs.Fmt.{decimal}
 use Rattle.std.specs.List.{AllZip, concat}
@@ -13,7 +13,7 @@ use Rattle.element_core.specs.declared.form.Form.TheVariants as form
 abbrev pub numbered_line : Form → ℕ → ℕ → Answer → List ℕ
 numbered_line f lane number a = decimal lane ++ (32 ∷ []) ++ decimal number ++ (32 ∷ []) ++ said f a ++ (10 ∷ [])
 
--- the same with the elements in the human-readable form
+-- the line of an answer with the elements in the human-readable form, in which reports are written
 abbrev pub line_of : ℕ → ℕ → Answer → List ℕ
 line_of lane number a = numbered_line form.HumanReadable lane number a
 
@@ -22,7 +22,7 @@ abbrev pub lines_from : ℕ → ℕ → List Answer → List ℕ
 lines_from lane number [] = []
 lines_from lane number (a ∷ rest) = line_of lane number a ++ lines_from lane (number + 1) rest
 
--- the lines of each lane, from one on
+-- the lines of each lane, from this lane on
 abbrev pub lane_lines : ℕ → List (List Answer) → List (List ℕ)
 lane_lines lane [] = []
 lane_lines lane (answers ∷ rest) = lines_from lane 0 answers ∷ lane_lines (lane + 1) rest

@@ -1,4 +1,4 @@
--- The command `check`.
+-- What the command `check` writes and refuses.
 use Rattle.std.specs.Prelude.{◌≡◌}
 use Rattle.csv_records.specs.check.Checks.{check_meaning, check_report}
 use Rattle.element_core.specs.Terms.{Terms}
@@ -12,6 +12,6 @@ check_command year = record {
       RefusesRecords (check_meaning year);
 }
 
--- of the same bytes it writes one text at most
+-- the law `one_check`
 abbrev pub OneCheck : Type 0
 OneCheck = (year : Terms) → WritesOnce (check_command year)

@@ -1,4 +1,4 @@
--- The command `lanes`.
+-- What the command `lanes` writes and refuses.
 use Rattle.std.specs.Prelude.{ℕ, List, Option}
 use Rattle.command_runs.specs.answers.Reports.{IsReport}
 use Rattle.command_runs.specs.answers.Rows.{RefusesRows}
@@ -9,7 +9,7 @@ use Rattle.command_runs.specs.declared.fault.CommandFault.{CommandFault}
 use Rattle.command_runs.specs.declared.fault.CommandFault.TheVariants as command
 use Rattle.command_line.specs.declared.commands.lanes.options.LaneOptions.{LaneOptions}
 
--- why `lanes` refuses the input: as its rows are
+-- why `lanes` refuses the input: its records, or a thread that could not be started, as `RefusesRows` says it
 abbrev pub RefusesLanes : ℕ → Option (List ℕ) → Option (List ℕ) → CommandFault → Type 0
 RefusesLanes lanes left rest command.NoThread = RefusesRows lanes left rest rows.NoThread
 RefusesLanes lanes left rest f = RefusesRecords (lanes_meaning lanes) left rest f
@@ -22,6 +22,6 @@ lanes_command o = record {
       RefusesLanes o.lanes;
 }
 
--- of the same bytes it writes one text at most
+-- the law `one_lanes`
 abbrev pub OneLanes : Type 0
 OneLanes = (o : LaneOptions) → WritesOnce (lanes_command o)

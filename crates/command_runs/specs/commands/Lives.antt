@@ -1,4 +1,4 @@
--- The command `live`.
+-- What a run of the command `live` leaves.
 use Rattle.std.specs.Prelude.{◌≡◌, Bool, List, Result, Ok, Err}
 use Rattle.wire_core.specs.Events.{Event}
 use Rattle.command_runs.specs.live.Lived.{Lived}
@@ -8,7 +8,7 @@ use Rattle.command_runs.specs.Faults.{of_live}
 use Rattle.command_runs.specs.declared.fault.CommandFault.{CommandFault}
 use Rattle.command_line.specs.declared.commands.live.options.LiveOptions.{LiveOptions}
 
--- what is asked for of a live input
+-- the options, as the terms of `answer_live`
 abbrev pub live_terms : LiveOptions → LiveTerms
 live_terms o = record { lanes = o.rows.lanes; workers = o.rows.workers; year = o.rows.year; form = o.form }
 

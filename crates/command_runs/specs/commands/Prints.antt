@@ -1,4 +1,4 @@
--- The command `print`.
+-- What the command `print` writes and refuses.
 use Rattle.std.specs.Prelude.{◌≡◌, ⊤, ℕ, List, Option}
 use Rattle.std.specs.List.{AllByRecursion}
 use Rattle.sheet_core.specs.Bitmaps.{Bitmap}
@@ -24,11 +24,11 @@ abbrev pub IsPrinted : Cells → Output → List Label → List ℕ → Type 0
 IsPrinted g output.Lines labels text = AllByRecursion (IsPrintable g) labels × (text ≡ label_lines (cell_count g) labels)
 IsPrinted g output.Images labels text = (sheets : List Bitmap) × ArePrinted labels g sheets × (text ≡ pbm_of sheets)
 
--- the same in the grid of options
+-- the options have a grid (`IsGrid`), and in it this is written of labels
 abbrev pub IsPrint : PrintOptions → List Label → List ℕ → Type 0
 IsPrint o labels text = IsGrid (cells_of o.grid) × IsPrinted (cells_of o.grid) o.output labels text
 
--- why nothing is written of labels: the first that has no symbol or does not fit its cell
+-- why labels are not written: for the first that cannot be printed what `IsSheetFault` says; of a failed write and a refused growth nothing is said
 abbrev pub IsUnprinted : Cells → List Label → CommandFault → Type 0
 IsUnprinted g labels (command.LabelKind i) = IsSheetFault g labels (sheet.LabelKind i)
 IsUnprinted g labels (command.LabelWidth i) = IsSheetFault g labels (sheet.LabelWidth i)
@@ -40,7 +40,7 @@ IsUnprinted g labels _ = ⊥
 abbrev pub RefusesLabels : PrintOptions → Option (List ℕ) → Option (List ℕ) → CommandFault → Type 0
 RefusesLabels o left rest f = Takes (print_meaning o.year) (λ labels. IsUnprinted (cells_of o.grid) labels f) left rest
 
--- why `print` refuses the input: the grid, before a byte is read, then the records, then the labels
+-- why `print` refuses the input: the grid, before a byte is read (as in `RefusesScan`), then the records, then the labels
 abbrev pub RefusesPrint : PrintOptions → Option (List ℕ) → Option (List ℕ) → CommandFault → Type 0
 RefusesPrint o left rest command.BadGrid = (IsGrid (cells_of o.grid) → ⊥) × (rest ≡ left)
 RefusesPrint o left rest (command.LabelKind i) = IsGrid (cells_of o.grid) × RefusesLabels o left rest (command.LabelKind i)
@@ -51,7 +51,7 @@ RefusesPrint o left rest f = IsGrid (cells_of o.grid) × RefusesRecords (print_m
 abbrev pub print_command : PrintOptions → Command
 print_command o = record { writes = WritesRecords (print_meaning o.year) (IsPrint o); refuses = RefusesPrint o }
 
--- of the same bytes it writes one text at most, if texts are bytes: images are fixed by their dots alone if these are packed in bytes
+-- the law `one_print`: of the same bytes it writes one text at most, if texts are bytes: images are fixed by their dots alone if these are packed in bytes
 abbrev pub OnePrint : Type 0
 OnePrint = (o : PrintOptions) (bytes text other : List ℕ) → AreBytes text → AreBytes other
     → (print_command o).writes bytes text → (print_command o).writes bytes other → text ≡ other

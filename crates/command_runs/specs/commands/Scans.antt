@@ -1,4 +1,4 @@
--- The command `scan`.
+-- What the command `scan` writes and refuses.
 use Rattle.std.specs.Prelude.{◌≡◌, ◌≢◌, ◌⊎◌, ⊤, ℕ, true, false, List, [], Option, Ok, Err}
 use Rattle.digits_core.specs.Bytes.{GaveAll}
 use Rattle.sheet_core.specs.Bitmaps.{Bitmap}
@@ -28,7 +28,7 @@ GaveOtherSize o left rest = (bytes : List ℕ) × GaveAll left rest bytes × (sh
     × (have_size (cells_of o.grid) sheets ≡ false)
 
 -- why `scan` refuses the input in a grid: the first byte that cannot stand in an image, then an image of another size, then a thread that could not be started,
--- and only if there is an image
+-- and only if there is an image; of a failed write nothing is said
 abbrev pub RefusesImages : ScanOptions → Option (List ℕ) → Option (List ℕ) → CommandFault → Type 0
 RefusesImages o left rest command.NotP4 = ReadsBytes images_of left rest (Err pbm.NotP4)
 RefusesImages o left rest command.PbmHeader = ReadsBytes images_of left rest (Err pbm.PbmHeader)
@@ -40,7 +40,7 @@ RefusesImages o left rest command.WriteFault = ⊤
 RefusesImages o left rest command.NoMemory = ReadsBytes images_of left rest (Err pbm.NoMemory)
 RefusesImages o left rest _ = ⊥
 
--- why `scan` refuses the input: the grid, before a byte is read, then the images
+-- why `scan` refuses the input: the grid, before a byte is read (as in `RefusesPrint`), then the images
 abbrev pub RefusesScan : ScanOptions → Option (List ℕ) → Option (List ℕ) → CommandFault → Type 0
 RefusesScan o left rest command.BadGrid = (IsGrid (cells_of o.grid) → ⊥) × (rest ≡ left)
 RefusesScan o left rest f = IsGrid (cells_of o.grid) × RefusesImages o left rest f
@@ -49,6 +49,6 @@ RefusesScan o left rest f = IsGrid (cells_of o.grid) × RefusesImages o left res
 abbrev pub scan_command : ScanOptions → Command
 scan_command o = record { writes = IsScan o; refuses = RefusesScan o }
 
--- of the same bytes it writes one text at most
+-- the law `one_scan`
 abbrev pub OneScan : Type 0
 OneScan = (o : ScanOptions) → WritesOnce (scan_command o)

@@ -15,8 +15,8 @@ taken_and_waiting taken s = append_known (taken s.sink) s.waiting
 abbrev pub KeepsBytes : {W : Type 0} → (W → Option (List ℕ)) → SinkAndWaiting W → SinkAndWaiting W → Type 0
 KeepsBytes taken old new = Keeps (taken_and_waiting taken old) (taken_and_waiting taken new)
 
--- what a call tells of a failure of its sink: that it has failed from then on if the call failed, and else no more than before; and one that has
--- failed fails again
+-- What a call reports of its sink (`TellsFaults` of wire_core is of the two sides of a wire). If the call fails, the sink has failed from then on; otherwise
+-- no more than before. If the sink had failed, the call fails.
 pub record TellsFailure {W E : Type 0} (failed : W → Bool) (old : W) (result : Result (Unit {0}) E) (new : W) : Type 0 where
   pub ok : OnOk result (failed new ≡ failed old)
   pub err : OnErr result (failed new ≡ true)

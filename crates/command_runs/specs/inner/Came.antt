@@ -14,7 +14,7 @@ use Rattle.command_runs.specs.live.Replies.{Numbers, Reply, Told, replies_to}
 use Rattle.command_runs.specs.live.Replies.Reply.{Row, Line}
 use Rattle.command_runs.specs.live.Text.{AnsweredWhole, HasEnded, IsFront, IsPrompt, IsReply, IsTold, line_meant}
 use Rattle.command_runs.specs.inner.Meaning.{told_of}
-use Rattle.command_runs.specs.inner.Replies.{numbers_after_lines}
+use Rattle.command_runs.specs.inner.NextNumbers.{numbers_after_lines}
 use Rattle.command_runs.specs.inner.Stops.{StopsFor}
 use Rattle.command_runs.specs.declared.live.fault.LiveFault.{LiveFault}
 use Rattle.command_runs.specs.declared.live.fault.LiveFault.TheVariants.{NoThread, ReadFault, WriteFault}
@@ -40,6 +40,7 @@ pub record Turn : Type 0 where
   pub lines : Held
   pub stopped : Option LiveFault
 
+-- these four of a live input
 abbrev pub turn_of : {W : Type 0} → Live W → Turn
 turn_of s = record { lanes = s.lanes.items; replies = s.replies.items; lines = s.lines; stopped = s.stopped }
 
@@ -54,7 +55,7 @@ pub record IsWaiting (rows : List (List ℕ)) (brought : List Plain) (w : Waitin
   pub behind : length brought ≤ length rows
   pub room : w.next ≤ w.first + vec_capacity w.deliveries
 
--- of each of this many lanes
+-- each of this many lanes is as `IsWaiting` says
 pub record AreWaiting (n : ℕ) (given : List (List (List ℕ))) (brought : List (List Plain)) (lanes : List Waiting) : Type 0 where
   pub count : length lanes ≡ n
   pub rows : length given ≡ n
@@ -88,7 +89,7 @@ IsReady lanes (pending.Notice n) = ⊤
 abbrev pub IsToldBy : LiveTerms → Told → List ℕ → Type 0
 IsToldBy t = IsTold t.year t.form
 
--- the line of a pending reply, by the deliveries that wait
+-- the line of a pending reply, by the deliveries that wait: for a row what `IsReply` says, with the widths and the year of its delivery
 abbrev pub TellsPending : LiveTerms → List Waiting → PendingReply → List ℕ → Type 0
 TellsPending t lanes (pending.Row lane number) text = (w : Waiting) × (x : Plain) × (a : Answer) × (slice_get lanes lane ≡ Some w) × (w.first ≤ number)
     × (slice_get w.deliveries.items (number - w.first) ≡ Some x) × IsAnswer x.widths x.year a × (text ≡ numbered_line t.form lane number a)
@@ -115,14 +116,15 @@ pub record KeepsReplies (p : Past) (lanes : List Waiting) (replies : List Pendin
   pub numbers : numbers_after_lines (line_meant p.terms.lanes) taken ≡ counts p.given
   pub answers : AreOfRows p → AnswersBy (IsReplyTo p.terms) done (was_written p.events)
 
--- what stands of reads and writes whatever comes
+-- what is true of the reads and writes so far. At the end it makes `Lived`: `answered` its `cut`, and `ended` a part of its `ok`.
 pub record Stands (t : LiveTerms) (events : List Event) (has_ended : Bool) (stopped : Option LiveFault) : Type 0 where
   pub prompt : IsPrompt t.lanes t.form t.year events
   pub front : IsFront t.lanes t.form t.year events
   pub ended : has_ended ≡ true → HasEnded events
   pub answered : stopped ≡ Some ReadFault → AnsweredWhole t.lanes t.form t.year events
 
--- a live input has come this far
+-- A live input has come this far. Of its replies nothing is said after a failed write, and of its reads and writes only if each delivery is of its row, as
+-- the hub claims.
 pub record HasCome (p : Past) (t : Turn) : Type 0 where
   pub waiting : AreWaiting p.terms.lanes p.given p.brought t.lanes
   pub keeps : t.stopped ≢ Some WriteFault → KeepsReplies p t.lanes t.replies t.lines
@@ -150,18 +152,18 @@ pub record HasLived {W : Type 0} (did : W → W → List Event → Type 0) (read
 abbrev pub HasBegun : {W : Type 0} → History (Live W) → LiveTerms → W → Live W → Type 0
 HasBegun came terms wire s = (s.wire ≡ wire) × (s.terms ≡ terms) × came s s (replicate terms.lanes []) (replicate terms.lanes [])
 
--- what was taken was given
+-- a row that was taken was given to the hub, and nothing else was
 abbrev pub TakesLine : {W : Type 0} → History (Live W) → Result NextLine AllocError → Live W → Live W → Type 0
 TakesLine came (Ok (take.Row lane row)) s t = Gives came (lane, row) s t
 TakesLine came (Ok take.Line) s t = Stays came s t
 TakesLine came (Ok take.Nothing) s t = Stays came s t
 TakesLine came (Err refused) s t = Stays came s t
 
--- what is held of the input stays, and why nothing more is taken
+-- what is held of the input stays as it is, and so does the reason why nothing more is taken
 abbrev pub HoldsOn : {W : Type 0} → Live W → Live W → Type 0
 HoldsOn s t = (t.lines ≡ s.lines) × (t.stopped ≡ s.stopped)
 
--- with the line taken, unless memory was refused
+-- a live input without the line that it held, unless memory was refused
 abbrev pub after_line : {W : Type 0} → Result NextLine AllocError → Live W → Live W
 after_line (Ok taken) s = record s { lines = without_line s.lines }
 after_line (Err refused) s = s

@@ -12,6 +12,6 @@ AreCut g sheets fit feeds = (fit ≡ have_size g sheets) × (fit ≡ true → Ar
 abbrev pub AddsDots : List (List Bool) → List (List ℕ) → List (List ℕ) → Type 0
 AddsDots dots old new = (more : List (List ℕ)) × HaveDots more dots × (new ≡ old ++ more)
 
--- what the columns of sheets were are the columns of these and one more
+-- if the old rows were the columns of sheets, the new ones are those of one sheet more
 abbrev pub AddsSheet : Cells → Bitmap → List (List (List ℕ)) → List (List (List ℕ)) → Type 0
 AddsSheet g sheet old new = (sheets : List Bitmap) → AreColumns g sheets old → AreColumns g (sheets ++ sheet ∷ []) new

@@ -1,4 +1,4 @@
--- An input that comes in pieces (`held_input.rt`): what was taken of its source, and what of that is held.
+-- An input that comes in pieces (`answers/held_input.rt`): what was taken of its source, and what of that is held.
 use Rattle.std.specs.Prelude.{◌≡◌, ◌≤◌, ◌<◌, ◌+◌, ◌++◌, ℕ, Bool, false, true, List, [], Option, Result, Ok, Err, drop, length}
 use Rattle.std.specs.Borrow.{MutBor}
 use Rattle.std.specs.Global.{Vec}
@@ -26,7 +26,7 @@ StopsTaking left failed lent i input.ReadFault = (i.source.ghost_name ≡ lent.g
 StopsTaking left failed lent i input.InputSize = (i.source.ghost_name ≡ lent.ghost_name) × GaveMoreThan most_bytes (left lent.now) (left i.source.now) × (failed i.source.now ≡ failed lent.now)
 StopsTaking left failed lent i input.NoMemory = (i.source.ghost_name ≡ lent.ghost_name) × (failed i.source.now ≡ failed lent.now)
 
--- the same, whatever the source and whatever was taken before
+-- why no more is taken, whatever the source and whatever was taken before
 abbrev pub StopsReading : {S : Type 0} → (S → Option (List ℕ)) → (S → Bool) → HeldInput S → InputFault → HeldInput S → Type 0
 StopsReading {S} left failed old fault new = (lent : MutBor S) (taken : List ℕ) → HasTaken left failed lent old taken → StopsTaking left failed lent new fault
 
@@ -40,7 +40,7 @@ TakesMore {S} left failed old more new = (lent : MutBor S) (taken : List ℕ) �
 abbrev pub HoldsNothing : {S : Type 0} → (S → Option (List ℕ)) → (S → Bool) → MutBor S → HeldInput S → Type 0
 HoldsNothing left failed lent i = HasTaken left failed lent i [] × (held_of i ≡ []) × (i.source ≡ lent)
 
--- so many bytes less are held, from the first on
+-- this many bytes are given up at the front of what is held
 abbrev pub GivesUp : {S : Type 0} → ℕ → HeldInput S → HeldInput S → Type 0
 GivesUp count old new = (held_of new ≡ drop count (held_of old)) × (new.source ≡ old.source) × (new.room ≡ old.room)
 

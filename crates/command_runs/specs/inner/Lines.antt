@@ -1,4 +1,4 @@
--- The lines of what is held of a plain text, one after another (`lines.rt`, `row_reader.rt`).
+-- The lines of what is held of a plain text, one after another (`answers/lines.rt`, `answers/row_reader.rt`).
 use Rattle.std.specs.Prelude.{◌≡◌, ◌<◌, ◌+◌, ℕ, List, [], ◌∷◌, ◌==◌, drop, length, slice_index_or, take, if◌then◌else◌}
 use Rattle.command_runs.specs.live.Laws.{has_byte, record_lines}
 use Rattle.command_runs.specs.live.Text.{without_return}
@@ -12,11 +12,11 @@ abbrev pub line_start : List ℕ → ℕ
 line_start [] = 0
 line_start (b ∷ bytes) = if b == 10 then 1 else 0
 
--- the line behind it, if none follows
+-- all that is held from there on, which is the last line if no line feed follows, without its carriage return
 abbrev pub last_of : List ℕ → List ℕ
 last_of bytes = without_return (drop (line_start bytes) bytes)
 
--- no line feed ends a line: the only one that there may be is the one behind it
+-- one line at most is held, and no line feed ends it; the first byte may be the line feed of the line before it
 abbrev pub IsLastLine : List ℕ → Type 0
 IsLastLine bytes = record_lines bytes ≡ with_line (last_of bytes) []
 
@@ -24,7 +24,7 @@ IsLastLine bytes = record_lines bytes ≡ with_line (last_of bytes) []
 abbrev pub IsReturnAt : List ℕ → ℕ → Type 0
 IsReturnAt bytes place = (slice_index_or bytes place 0 ≡ 13) × (place + 1 < length bytes → slice_index_or bytes (place + 1) 0 ≡ 10)
 
--- the first line of these bytes is this one, without its carriage return, and a line feed ends it at this place
+-- a line feed stands at this place, and before it these bytes have one line that has a byte, this one without its carriage return; or none, and it is empty
 pub record IsLineTo (bytes line : List ℕ) (end : ℕ) : Type 0 where
   pub cut : record_lines (take end bytes) ≡ with_line line []
   pub feed : drop end bytes ≡ 10 ∷ drop (end + 1) bytes

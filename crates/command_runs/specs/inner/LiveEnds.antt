@@ -12,7 +12,8 @@ pub record EndsAs {S B : Type 0} (stopped : Option LiveFault) (ended : Ended S B
   pub done : OnOk result ((stopped ≡ None) × (ended ≡ Done))
   pub told : (f : LiveFault) → f ≢ NoMemory → (IsErrOf result f ↔ (stopped ≡ Some f))
 
--- a fault of a hub that did not begin, as the live input's
+-- a fault of a hub that did not begin, as the live input's (`answer_fault` of specs/inner/AnswerLines is the same for other rows); `serve_traffic` never
+-- reports `BadCount`
 abbrev pub live_fault : ServeFault → LiveFault
 live_fault serve.NoThread = NoThread
 live_fault serve.NoMemory = NoMemory

@@ -21,17 +21,17 @@ IsRecord lanes read.Blank m = m ≡ None
 IsRecord lanes (read.Row lane row) m = (m ≡ Some (Ok (lane, row))) × (lane < lanes)
 IsRecord lanes (read.Notice n) m = m ≡ Some (Err (told_of n))
 
--- a record that is read as what has this meaning
+-- the record means this
 abbrev pub ReadAs : ℕ → Meant → Record → Type 0
 ReadAs lanes m found = IsRecord lanes found (Some m)
 
--- a line is held, this many bytes of it, and this is the record that it means, whatever front was given up
+-- a line is held, this many bytes of it, and this is the record that it means; if its front was given up, that it is too long
 abbrev pub HoldsRecord : ℕ → Held → ℕ → Record → Type 0
 HoldsRecord lanes h count r = (found : List ℕ) × (held_line h ≡ Some found) × (length found ≡ count)
     × (h.is_cut ≡ false → IsRecord lanes r (line_meant lanes found))
     × (h.is_cut ≡ true → r ≡ read.Notice (notice.Refused None line_fault.InputSize))
 
--- this is the line that is held, if one is
+-- no line is held, or this many bytes of one that means this record
 abbrev pub HoldsNext : ℕ → Held → Option (ℕ × Record) → Type 0
 HoldsNext lanes h None = held_line h ≡ None
 HoldsNext lanes h (Some found) = HoldsRecord lanes h found.0 found.1

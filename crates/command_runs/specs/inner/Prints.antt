@@ -10,7 +10,7 @@ use Rattle.command_runs.specs.declared.fault.CommandFault.{CommandFault}
 use Rattle.command_runs.specs.declared.fault.CommandFault.TheVariants as command
 use Rattle.command_line.specs.declared.commands.print.options.Output.{Output}
 
--- what is written of labels, of which P is so
+-- P is true of a text that is written of labels
 abbrev pub Prints : Cells → Output → List Label → (List ℕ → Type 0) → Type 0
 Prints g o labels P = (text : List ℕ) × IsPrinted g o labels text × P text
 

@@ -7,6 +7,6 @@ use Rattle.command_runs.specs.declared.live.fault.LiveFault.TheVariants.{NoMemor
 abbrev pub MayStillWrite : Option LiveFault → Type 0
 MayStillWrite stopped = (stopped ≡ None) ⊎ (stopped ≡ Some NoMemory)
 
--- if nothing had failed at first, it has stopped for this fault exactly if something has failed
+-- if nothing had failed at first, it has stopped for this fault exactly if something has failed: `TellsFault` of specs/Runs, before there is a result
 abbrev pub StopsFor : Bool → Bool → Option LiveFault → LiveFault → Type 0
 StopsFor at_first now stopped fault = at_first ≡ false → (stopped ≡ Some fault ↔ (now ≡ true))

@@ -11,20 +11,20 @@ pub record HasMoved (rows : ℕ) (more : List Plain) (old new : Waiting) : Type 
   pub deliveries : new.deliveries.items ≡ old.deliveries.items ++ more
   pub room : vec_capacity old.deliveries ≤ vec_capacity new.deliveries
 
--- one row more, under this number, with room for its delivery
+-- one row more, under this number, which is below `most_rows` of specs/live/Replies, with room for its delivery
 pub record IsOneMore (number : ℕ) (old new : Waiting) : Type 0 where
   pub moved : HasMoved 1 [] old new
   pub same : number ≡ old.next
   pub left : number < 4294967295
   pub room : new.next ≤ new.first + vec_capacity new.deliveries
 
--- a number was taken, unless the lane has had all, or memory was refused
+-- a number was taken, unless the lane has had all (`most_rows`), or memory was refused
 abbrev pub TakesNumber : Result (Option ℕ) AllocError → Waiting → Waiting → Type 0
 TakesNumber (Ok (Some number)) old new = IsOneMore number old new
 TakesNumber (Ok None) old new = HasMoved 0 [] old new × (old.next ≡ 4294967295)
 TakesNumber (Err refused) old new = HasMoved 0 [] old new
 
--- of the lane of this place
+-- the lane of this place takes its next number, as `TakesNumber` says, and no other lane changes
 abbrev pub TakesNumberOf : ℕ → Result (Option ℕ) AllocError → List Waiting → List Waiting → Type 0
 TakesNumberOf lane result old new = (w : Waiting) × (v : Waiting) × (slice_get old lane ≡ Some w) × (new ≡ slice_set old lane v) × TakesNumber result w v
 
@@ -45,7 +45,7 @@ pub record IsFresh (w : Waiting) : Type 0 where
   pub next : w.next ≡ 0
   pub deliveries : w.deliveries.items ≡ []
 
--- nor of any of this many
+-- nothing has come of any of this many lanes
 pub record AreFresh (n : ℕ) (lanes : List Waiting) : Type 0 where
   pub count : length lanes ≡ n
   pub each : All IsFresh lanes

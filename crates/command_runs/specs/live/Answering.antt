@@ -9,11 +9,11 @@ use Rattle.wire_core.specs.Lines.{pieces_of}
 abbrev pub whole_lines : List ℕ → List (List ℕ)
 whole_lines bytes = take (length (pieces_of bytes) - 1) (pieces_of bytes)
 
--- the text has a line for each of the records, in their order
+-- the text has a line for each of the records, in their order; L says which texts are the line of a record
 abbrev pub AnswersBy : {X : Type 0} → (X → List ℕ → Type 0) → List X → List ℕ → Type 0
 AnswersBy L records text = (texts : List (List ℕ)) × AllZip L records texts × (text ≡ concat texts)
 
--- the text is the first of the lines of the first records
+-- the text is a front of the lines of the records, by the first of them
 abbrev pub BeginsBy : {X : Type 0} → (X → List ℕ → Type 0) → List X → List ℕ → Type 0
 BeginsBy {X} L records text = (first : List X) × (later : List X) × (texts : List (List ℕ)) × (rest : List ℕ) × (records ≡ first ++ later)
     × AllZip L first texts × (concat texts ≡ text ++ rest)
@@ -23,6 +23,6 @@ abbrev pub IsPromptBy : {X : Type 0} → (X → List ℕ → Type 0) → (List (
 IsPromptBy L records events = (before after : List Event) (bytes : List ℕ) → events ≡ before ++ Read bytes ∷ after
     → AnswersBy L (records (whole_lines (was_read before))) (was_written before)
 
--- at each moment what was written is the first of the lines of what was read
+-- at each moment what was written is a front of the lines that answer what was read
 abbrev pub IsFrontBy : {X : Type 0} → (X → List ℕ → Type 0) → (List (List ℕ) → List X) → List Event → Type 0
 IsFrontBy L records events = (before after : List Event) → events ≡ before ++ after → BeginsBy L (records (pieces_of (was_read before))) (was_written before)

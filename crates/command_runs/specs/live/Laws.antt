@@ -1,4 +1,4 @@
--- Laws of a live input beside the records of `csv` and the report of `lanes`.
+-- Laws of a live input beside the records of `csv` and the report of `lanes` (`live/laws.rt`).
 use Rattle.std.specs.Prelude.{◌≡◌, ◌≤◌, ◌==◌, ◌++◌, ◌∷◌, ℕ, All, Bool, false, true, List, [], length, map}
 use Rattle.std.specs.List.{AllZip, concat, filter}
 use Rattle.csv.specs.Reading.{strip_bom}
@@ -44,7 +44,7 @@ LinesAreRecords = (bytes : List ℕ) → IsPlain bytes → records_of bytes ≡ 
 abbrev pub LaneLine : Type 0
 LaneLine = ℕ × List ℕ
 
--- the line of an answer of the row, in its lane and under some number
+-- the line of an answer to the row, in its lane and under some number
 abbrev pub IsLaneRowLine : Terms → LaneRow → LaneLine → Type 0
 IsLaneRowLine year row line = (line.0 ≡ row.0) × (number : ℕ) × (a : Answer) × IsAnswer row.1 year a × (line.1 ≡ line_of row.0 number a)
 
@@ -60,7 +60,7 @@ pub record IsReordered (lanes : ℕ) (year : Terms) (rows : List LaneRow) (text 
   pub report : IsReport year (feeds_of lanes rows) (lane_by_lane lanes lines)
 
 -- If each record of a plain text means a row, no line is too long and no lane has more rows than numbers, the answers of `live` to its lines
--- are those of `lanes` in the order of the records.
+-- in the human-readable form, in which `lanes` writes, are those of `lanes` in the order of the records.
 abbrev pub LinesAreReport : Type 0
 LinesAreReport = (lanes : ℕ) (year : Terms) (bytes text : List ℕ) (rows : List LaneRow)
     → IsPlain bytes → All (λ line. length line ≤ most_line) (record_lines bytes)

@@ -10,7 +10,7 @@ abbrev pub unnumbered_line : Option ℕ → List ℕ → List ℕ
 unnumbered_line None words = codes "- - " ++ words ++ (10 ∷ [])
 unnumbered_line (Some lane) words = decimal lane ++ codes " - " ++ words ++ (10 ∷ [])
 
--- what is reported of a record that is no row: the line that refuses it, or what this message of a scanner says, of a lane
+-- what a `Notice` of live/record.rt reports: the line that refuses a record, or a lane and the text of a message of a scanner
 pub data Told : Type 0 where
   Refusal : List ℕ → Told
   Message : ℕ → List ℕ → Told
@@ -28,10 +28,12 @@ pub data Reply : Type 0 where
 abbrev pub Numbers : Type 0
 Numbers = ℕ → ℕ
 
+-- the numbers after one more row of this lane
 abbrev pub one_later : ℕ → Numbers → Numbers
 one_later lane next = λ l. if l == lane then next l + 1 else next l
 
--- as many rows as a lane has
+-- as many rows as a lane has at most. Their numbers are those of `u32` but the last, which a hub does not give (`HasRoom` of hub_core). The same number
+-- stands in `IsOneMore` and `TakesNumber` of specs/inner/Turns.
 abbrev pub most_rows : ℕ
 most_rows = 4294967295
 
@@ -40,6 +42,7 @@ abbrev pub reply_to : Numbers → Meant → Reply
 reply_to next (Ok row) = if nat_lt (next row.0) most_rows then Row row.0 (next row.0) row.1 else Line (Refusal (unnumbered_line (Some row.0) (refusal_words refusal.Spent)))
 reply_to next (Err told) = Line told
 
+-- the numbers after a reply
 abbrev pub numbers_after : Numbers → Reply → Numbers
 numbers_after next (Row lane number widths) = one_later lane next
 numbers_after next (Line told) = next

@@ -34,7 +34,7 @@ without_return [] = []
 without_return (b ∷ []) = if b == 13 then [] else b ∷ []
 without_return (b ∷ c ∷ line) = b ∷ without_return (c ∷ line)
 
--- why a line gets no ticket, as it stands in its answer
+-- why a line gets no ticket, as its answer says it
 abbrev pub line_fault_text : LineFault → List ℕ
 line_fault_text (line_fault.Record f) = record_fault_text f
 line_fault_text line_fault.InputSize = refusal_words refusal.InputSize
@@ -45,7 +45,8 @@ abbrev pub row_or_line : ℕ → Option RecordFault → List ℕ → Meant
 row_or_line lane None widths = Ok (lane, widths)
 row_or_line lane (Some f) widths = Err (Refusal (unnumbered_line (Some lane) (record_fault_text f)))
 
--- what the fields of a line mean: two, a lane and the widths of a row
+-- what the fields of a line mean: two, a lane and the widths of a row; it is `lane_row` of csv_records, with the line that refuses the record for its fault.
+-- A field that is no lane is refused as in `message_meant`.
 abbrev pub fields_meant : ℕ → List (List ℕ) → Meant
 fields_meant lanes (lane ∷ widths ∷ []) = if is_lane lanes lane then row_or_line (digits_value 10 lane) (field_fault widths) (widths_in widths) else Err
     (Refusal (unnumbered_line None (record_fault_text fault.BadLane)))
@@ -58,7 +59,7 @@ is_comma b = b == 44
 abbrev pub fields_in : List ℕ → List (List ℕ)
 fields_in line = slice_split is_comma line
 
--- what a lane and a message of a scanner mean
+-- what a lane and a message of a scanner mean: the message, or the line that refuses the lane, which is that of `fields_meant`
 abbrev pub message_meant : ℕ → List ℕ → List ℕ → Meant
 message_meant lanes lane text = if is_lane lanes lane then Err (Message (digits_value 10 lane) text) else Err
     (Refusal (unnumbered_line None (record_fault_text fault.BadLane)))
@@ -69,23 +70,24 @@ abbrev pub record_in : ℕ → List ℕ → Meant
 record_in lanes line = if is_message (after_first is_comma line) then message_meant lanes (before_first is_comma line) (after_first is_comma line) else
     fields_meant lanes (fields_in line)
 
--- what a line means: nothing if it has no byte
+-- what a line means whose carriage return was cut off: nothing if it has no byte
 abbrev pub text_meant : ℕ → List ℕ → Option Meant
 text_meant lanes [] = None
 text_meant lanes (b ∷ line) = Some (if nat_lt most_line (length (b ∷ line)) then Err (Refusal (unnumbered_line None (line_fault_text line_fault.InputSize))) else
     record_in lanes (b ∷ line))
 
+-- what a line means
 abbrev pub line_meant : ℕ → List ℕ → Option Meant
 line_meant lanes line = text_meant lanes (without_return line)
 
 -- ---- the text
 
--- what is reported in the place of a row
+-- the text reports this in the place of a row
 abbrev pub IsTold : Terms → Form → Told → List ℕ → Type 0
 IsTold year f (Refusal line) text = text ≡ line
 IsTold year f (Message lane said) text = (words : List ℕ) × IsMessageLine f year said words × (text ≡ unnumbered_line (Some lane) words)
 
--- a row has the line of its answer
+-- the text is the line of this reply: that of an answer to the row, or of what is reported
 abbrev pub IsReply : Terms → Form → Reply → List ℕ → Type 0
 IsReply year f (Row lane number widths) text = (a : Answer) × IsAnswer widths year a × (text ≡ numbered_line f lane number a)
 IsReply year f (Line told) text = IsTold year f told text
@@ -94,11 +96,11 @@ IsReply year f (Line told) text = IsTold year f told text
 abbrev pub Answers : ℕ → Form → Terms → List (List ℕ) → List ℕ → Type 0
 Answers lanes f year lines text = AnswersBy (IsReply year f) (replies_to (line_meant lanes) lines) text
 
--- at each read the lines of all records that had ended were written, and nothing else
+-- `IsPromptBy` with the replies to lines
 abbrev pub IsPrompt : ℕ → Form → Terms → List Event → Type 0
 IsPrompt lanes f year events = IsPromptBy (IsReply year f) (replies_to (line_meant lanes)) events
 
--- at each moment what was written is the first of the lines of what was read
+-- `IsFrontBy` with the replies to lines
 abbrev pub IsFront : ℕ → Form → Terms → List Event → Type 0
 IsFront lanes f year events = IsFrontBy (IsReply year f) (replies_to (line_meant lanes)) events
 
@@ -110,6 +112,6 @@ HasEnded events = (before : List Event) × (after : List Event) × (events ≡ b
 abbrev pub AnsweredAll : ℕ → Form → Terms → List Event → Type 0
 AnsweredAll lanes f year events = Answers lanes f year (pieces_of (was_read events)) (was_written events) × HasEnded events
 
--- all lines that had ended were answered
+-- all lines that have ended were answered, and nothing else was written
 abbrev pub AnsweredWhole : ℕ → Form → Terms → List Event → Type 0
 AnsweredWhole lanes f year events = Answers lanes f year (whole_lines (was_read events)) (was_written events)

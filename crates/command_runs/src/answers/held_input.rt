@@ -1,4 +1,5 @@
-//! The bytes of an input that came and were not read yet.
+//! An input that comes in pieces: the bytes that came are held until a reader gives them up. `Lines` of wire_core holds
+//! those of a wire, and gives up the front of a line that is too long.
 ghost use Rattle.std.specs.Prelude.{◌≡◌, ◌≤◌, IfOk, length};
 
 use csv_records::INPUT_LIMIT;
@@ -6,7 +7,8 @@ use digits_core::{InputFault, Source};
 use std::alloc::{AllocError, Global};
 use std::mem;
 
-/// How many bytes are asked for at a time.
+/// How many bytes are asked for at a time, a choice for speed: the `CHUNK` of another crate need not be the same.
+/// Contracts see it as 65536. docs/ARCHITECTURE.md tells it, and `LONG` of row_reader.rt.
 const CHUNK: usize = 65_536;
 
 /// An input that comes in pieces, and what is held of it.
@@ -14,12 +16,12 @@ const CHUNK: usize = 65_536;
 pub struct HeldInput<'a, S> {
     /// What gives the bytes.
     pub source: &'a mut S,
-    /// How many bytes may still come.
+    /// How many bytes may still come before the input is too long.
     room: usize,
     /// What is held, from `start` on.
     bytes: Vec<u8>,
     start: usize,
-    /// Where a piece is read to first.
+    /// Where a piece is read to, before its bytes are appended: `make_chunk`.
     chunk: Vec<u8>,
     ghost ok: { (start ≤ length bytes.items) × (length chunk.items ≡ 65536) },
 }
@@ -55,7 +57,7 @@ impl<'a, S: Source> HeldInput<'a, S> {
         &self.bytes.as_slice()[self.start..]
     }
 
-    /// Gives up so many bytes that are held, from the first on.
+    /// Gives up this many bytes that are held, from the first on.
     pub fn give_up(&mut self, count: usize)
         requires { count ≤ length (held_of self.old) }
         ensures { GivesUp count self.old self.new }
@@ -67,7 +69,7 @@ impl<'a, S: Source> HeldInput<'a, S> {
     pub fn read_piece(&mut self) -> Result<bool, InputFault>
         ensures { HoldsMore S.left S.failed self.old result self.new }
     {
-        // What is held is moved at once: a drain turns it byte by byte.
+        // In place of `drain`, which moves byte by byte; `keep_rest` of wire_core does the same.
         let len = self.bytes.len();
         self.bytes.copy_within(self.start..len, 0);
         self.bytes.truncate(len - self.start);
@@ -90,6 +92,7 @@ impl<'a, S: Source> HeldInput<'a, S> {
         ensures { ReadsRest S.left S.failed self.old result self.new }
     {
         'pieces: while self.read_piece()? {}
+        // `read_piece` left 0 there. It is set again for `ok`, which holds of the empty `bytes` then.
         self.start = 0;
         Ok(mem::replace(&mut self.bytes, Vec::new(alloc)))
     }

@@ -11,7 +11,7 @@ use csv_records::{RecordFault, RecordRefusal, lane_in, read_runs};
 use memchr::{memchr, memchr2};
 use scan_core::{RowPool, Runs};
 
-/// Whether the bytes may begin with a byte order mark.
+/// Whether the bytes may begin with a byte order mark, `EF BB BF`.
 fn may_have_mark(bytes: &[u8]) -> bool
     ensures { result ≡ false → strip_bom bytes.now ≡ bytes.now }
 {
@@ -46,15 +46,16 @@ fn are_lines(bytes: &[u8]) -> bool
     true
 }
 
-/// Whether the bytes have no byte order mark, no quote, and no carriage return but at the end of a line: then their
-/// records are their lines.
+/// Whether the bytes are a plain text (`IsPlain`): then their records are their lines (`lines_are_records`). False
+/// claims nothing, as in `is_return` and `are_lines`: `csv` reads every text.
 pub fn are_plain(bytes: &[u8]) -> bool
     ensures { result ≡ true → IsPlain bytes.now }
 {
     !may_have_mark(bytes) && are_lines(bytes)
 }
 
-/// The lane and the row of two fields.
+/// The lane and the row of two fields, as `read_record` of csv_records reads those of a record. `read_row` of
+/// live/record.rt reads them too, and names the lane in a refusal.
 fn read_fields(
     pool: &mut RowPool,
     lanes: u8,
@@ -68,7 +69,7 @@ fn read_fields(
     Ok((lane, runs))
 }
 
-/// The lane of a line and its row.
+/// The lane that a line names, and its row. `read_record` of live/record.rt reads a line that may also be a message.
 pub fn read_line(pool: &mut RowPool, lanes: u8, line: &[u8]) -> Result<(u8, Runs), RecordRefusal>
     ensures { IsMeant lanes (fields_in line.now) result }
 {

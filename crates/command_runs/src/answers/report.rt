@@ -1,7 +1,7 @@
 //! The lines that answer rows.
 ghost use Rattle.std.specs.Prelude.{◌≡◌, ◌∷◌, ◌++◌, [], IfOk, OnOk, decimal, map, string_bytes};
 ghost use Rattle.std.specs.List.{concat};
-ghost use Rattle.command_runs.specs.inner.Reports.{AddsAnswer};
+ghost use Rattle.command_runs.specs.inner.AnswerLines.{AddsAnswer};
 
 use element_core::Form;
 use itoa::Buffer;
@@ -12,7 +12,7 @@ use std::alloc::{AllocError, Global};
 pub fn push_number(text: &mut String, number: usize) -> Result<(), AllocError>
     ensures { OnOk result (string_bytes text.new ≡ string_bytes text.old ++ decimal number ++ (32 ∷ [])) }
 {
-    // Most lanes have one digit.
+    // Faster than `Buffer`, and most lanes have one digit.
     if number < 10 {
         text.push(char::from(b'0' + number as u8))?;
         return text.push(' ');

@@ -1,5 +1,5 @@
 //! The rows of the records that a source gives, one after another.
-ghost use Rattle.std.specs.Prelude.{◌≡◌, length};
+ghost use Rattle.std.specs.Prelude.{None, ◌≡◌, ◌≢◌, length, true};
 ghost use Rattle.command_runs.specs.inner.Lines.{line_start};
 ghost use Rattle.command_runs.specs.inner.RowReaders.{GoesOnAs, GoesToCsv};
 
@@ -12,38 +12,41 @@ use memchr::memchr;
 use scan_core::{RowPool, Runs};
 use std::alloc::Global;
 
-/// A longer line is read by `csv`, so that what is held has a limit.
+/// If more than this is held of a line, `csv` reads it and all that follows, since with each piece all that is held is
+/// moved and looked through again. A choice for speed, which need not be `CHUNK` of held_input.rt: the records are the
+/// same at any number.
 const LONG: usize = 65_536;
 
 /// Where the reading of records stands.
 #[derive(Drop)]
 pub enum Course {
-    /// The records of what is held are its lines. The line feed that ended the line before is held, so that nothing
-    /// is taken for a byte order mark.
+    /// The records of what is held are its lines. The line feed of the line before, if there was one, is held too:
+    /// behind it nothing is taken for a byte order mark.
     Lines,
-    /// What is held is the last line.
+    /// The source has given all. The last line is held, which no line feed ends and which may have no byte.
     LastLine,
-    /// All that was left was given to `csv`, whose reader is too large to be moved.
+    /// The source has given all, and `csv` reads what was held and what came after it. In a box, since its reader is
+    /// too large to be moved.
     Csv(Box<Records>),
-    /// All were read.
+    /// All records were read.
     Ended,
-    /// The input is refused.
+    /// The input is refused for this.
     Refused(RecordsFault),
 }
 
-/// The rows of the records that a source gives.
+/// Reads the records that a source gives, and gives the row of each.
 #[derive(Drop)]
 pub struct RowReader<'a, S> {
     alloc: Global,
     lanes: u8,
     input: HeldInput<'a, S>,
-    /// How many records were read.
+    /// How many rows were given: the index of the next record.
     pub count: usize,
-    /// Where the reading stands.
+    /// Where the reading stands, or why it has stopped.
     pub course: Course,
 }
 
-/// Where a line begins: behind the line feed of the line before it.
+/// Where the first line that is held begins: behind the line feed of the line before it, if that is held.
 fn line_start(bytes: &[u8]) -> usize
     ensures { result ≡ line_start bytes.now }
 {
@@ -66,7 +69,8 @@ fn give_to_csv<S: Source>(alloc: Global, input: &mut HeldInput<'_, S>) -> Result
     }
 }
 
-/// How the reading goes on where no whole line is held: by lines, if what comes has no byte that `csv` reads otherwise.
+/// How the reading goes on when no whole line is held: by `csv`, if more than `LONG` is held, or if what is held with
+/// the next piece does not pass `are_plain`; by the last line, if nothing more comes; and else by lines.
 fn next_course<S: Source>(alloc: Global, input: &mut HeldInput<'_, S>) -> Result<Course, InputFault>
     ensures { GoesOnAs S.left S.failed input.old result input.new }
 {
@@ -82,9 +86,9 @@ fn next_course<S: Source>(alloc: Global, input: &mut HeldInput<'_, S>) -> Result
 }
 
 impl<'a, S: Source> RowReader<'a, S> {
-    ghost use Rattle.command_runs.specs.inner.RowReaders.{BeginsRows, GivesNextRow, GoesOnFrom, IsAtLastLine, PassesRows, ReadsLine, StaysAtLines, TellsRow, WasRead, WhyRefused};
+    ghost use Rattle.command_runs.specs.inner.RowReaders.{BeginsRows, GivesNextRow, GoesOnFrom, IsAtLastLine, PassesRows, ReadsLine, StaysAtLines, TellsRow, WasRead, WhyRefused, is_over};
 
-    /// The rows of this many lanes, none of which was read.
+    /// A reader for this many lanes, which has read nothing of the source.
     pub fn new(alloc: Global, lanes: u8, source: &'a mut S, chunk: Vec<u8>) -> RowReader<'a, S>
         requires { length chunk.items ≡ 65536 }
         ensures same_reference { result.input.source.ghost_name ≡ source.entry.ghost_name }
@@ -99,8 +103,8 @@ impl<'a, S: Source> RowReader<'a, S> {
         }
     }
 
-    /// Why the input is refused if a record is. The input is read to its end first: a read that fails and too many bytes
-    /// are reported before a record.
+    /// Why the input is refused if its next record is. The rest of the source is read first, and if that fails, its
+    /// fault is reported and not the record's.
     fn why_refused(&mut self, refusal: RecordRefusal) -> RecordsFault
         ensures { WhyRefused S.left S.failed self.old refusal self.new result }
     {
@@ -109,16 +113,19 @@ impl<'a, S: Source> RowReader<'a, S> {
                 Ok(()) => refusal.at(self.count),
                 Err(fault) => RecordsFault::from(fault),
             },
+            // Behind the lines the input was read to its end.
             _ => refusal.at(self.count),
         }
     }
 
     /// The row of a record that was read; none if the record is refused, and the input with it.
     fn tell(&mut self, row: Result<(u8, Runs), RecordRefusal>) -> Option<(u8, Runs)>
-        ensures { TellsRow S.left S.failed self.old row result self.new }
+        ensures tells { TellsRow S.left S.failed self.old row result self.new }
+        ensures over { result ≡ None → is_over self.new.course ≡ true }
     {
         match row {
             Ok(row) => {
+                // `KeepsRows` bounds the count, but only inside the clause: by the code alone it could overflow.
                 self.count = self.count.saturating_add(1);
                 Some(row)
             }
@@ -130,7 +137,7 @@ impl<'a, S: Source> RowReader<'a, S> {
         }
     }
 
-    /// The row of the next line that a line feed ends and that has a byte; none if none is held.
+    /// The row of the next line that has a byte, or why it is refused. None if no such line is held with its line feed.
     fn next_line(&mut self, pool: &mut RowPool) -> Option<Result<(u8, Runs), RecordRefusal>>
         requires { self.old.course ≡ Course.Lines }
         ensures stays { StaysAtLines self.old result self.new }
@@ -153,10 +160,11 @@ impl<'a, S: Source> RowReader<'a, S> {
         }
     }
 
-    /// The row of the last line, which no line feed ends, if it has a byte.
+    /// The row of the last line, which no line feed ends, or why the line is refused; none if it has no byte.
     fn last_line(&mut self, pool: &mut RowPool) -> Option<Result<(u8, Runs), RecordRefusal>>
         requires { self.old.course ≡ Course.LastLine }
-        ensures { ReadsLine S.left S.failed self.old result self.new }
+        ensures reads { ReadsLine S.left S.failed self.old result self.new }
+        ensures ended { self.new.course ≡ Course.Ended }
     {
         self.course = Course::Ended;
         let held = self.input.held();
@@ -167,7 +175,7 @@ impl<'a, S: Source> RowReader<'a, S> {
         Some(read_line(pool, self.lanes, line))
     }
 
-    /// Goes on where no whole line is held.
+    /// Goes on by `next_course` when no whole line is held. If that fails, the input is refused.
     fn go_on(&mut self)
         requires { IsAtLastLine self.old }
         ensures { GoesOnFrom S.left S.failed self.old self.new }
@@ -178,10 +186,12 @@ impl<'a, S: Source> RowReader<'a, S> {
         };
     }
 
-    /// The row of the next record that is read otherwise than by a whole line.
+    /// The row of the next record, if the reading has left the lines.
     fn row_behind_lines(&mut self, pool: &mut RowPool) -> Option<(u8, Runs)>
-        requires { WasRead S.left S.failed self.old }
-        ensures { GivesNextRow S.left S.failed self.old result self.new }
+        requires read { WasRead S.left S.failed self.old }
+        requires behind { self.old.course ≢ Course.Lines }
+        ensures gives { GivesNextRow S.left S.failed self.old result self.new }
+        ensures over { result ≡ None → is_over self.new.course ≡ true }
     {
         match &mut self.course {
             Course::LastLine => match self.last_line(pool) {
@@ -196,14 +206,16 @@ impl<'a, S: Source> RowReader<'a, S> {
                 }
                 Err(refusal) => self.tell(Err(refusal)),
             },
-            Course::Lines | Course::Ended | Course::Refused(_) => None,
+            Course::Ended | Course::Refused(_) => None,
+            Course::Lines => unreachable!(),
         }
     }
 
     /// The next record's row, and its lane. None if all were read, or the input is refused.
     pub fn next_row(&mut self, pool: &mut RowPool) -> Option<(u8, Runs)>
         requires { WasRead S.left S.failed self.old }
-        ensures { GivesNextRow S.left S.failed self.old result self.new }
+        ensures gives { GivesNextRow S.left S.failed self.old result self.new }
+        ensures over { result ≡ None → is_over self.new.course ≡ true }
     {
         'pieces: while let Course::Lines = self.course {
             if let Some(row) = self.next_line(pool) {
@@ -220,7 +232,9 @@ impl<'a, S: Source> RowReader<'a, S> {
         ensures same_reference { self.new.input.source.ghost_name ≡ self.old.input.source.ghost_name }
         ensures passes { PassesRows S.left S.failed self.old self.new }
     {
-        let mut pool = RowPool::new(self.alloc);
+        let mut pool = RowPool::none(self.alloc);
+        // A bound that is never reached, as in `read_records` of csv_records: there is at most one record more than
+        // bytes. The contract does not say that all are read; `tell_fault` looks at where the reading stands.
         'rows: for _ in 0..usize::MAX {
             match self.next_row(&mut pool) {
                 Some((_, row)) => pool.put_back(row),

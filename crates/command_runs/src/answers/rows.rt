@@ -3,7 +3,7 @@ ghost use Rattle.std.specs.Prelude.{◌≡◌, IfErr, IfOk, string_bytes};
 ghost use Rattle.hub_core.specs.Serving.{AreSeatCounts};
 ghost use Rattle.command_runs.specs.Runs.{TellsFault};
 ghost use Rattle.command_runs.specs.answers.Rows.{AnswersRows, RefusesRows};
-ghost use Rattle.command_runs.specs.inner.Rows.{AreAnswered, BeginsUnanswered, TellsOfRows};
+ghost use Rattle.command_runs.specs.inner.ServedRows.{AreAnswered, BeginsUnanswered, TellsOfRows};
 
 use crate::answers::held_input::make_chunk;
 use crate::answers::report::joined;
@@ -28,14 +28,15 @@ pub enum RowsFault {
     NoThread,
 }
 
-/// The input is refused.
+/// Why `wait` fails: the input is refused, and its reader says for what.
 #[derive(Clone, Copy, Debug, PartialEq, Eq)]
 struct Refused;
 
-/// The records that a source gives, and the lines that answer the rows of those that were read.
+/// The records that a source gives, and the lines that answer the rows that have come back.
 #[derive(Drop)]
 struct RecordRows<'a, S> {
     rows: RowReader<'a, S>,
+    /// The lines of each lane.
     texts: Vec<String>,
     /// The memory of the rows that were answered.
     pool: RowPool,
@@ -43,7 +44,7 @@ struct RecordRows<'a, S> {
 
 impl<'a, S: Source> Traffic for RecordRows<'a, S> {
     ghost use Rattle.std.specs.Prelude.{◌≡◌};
-    ghost use Rattle.command_runs.specs.inner.Rows.{HasGiven, is_ended};
+    ghost use Rattle.command_runs.specs.inner.ServedRows.{HasGiven, is_ended};
 
     type WaitFault = Refused;
 
@@ -68,12 +69,13 @@ impl<'a, S: Source> Traffic for RecordRows<'a, S> {
     fn wait(&mut self) -> Result<bool, Refused> {
         match self.rows.course {
             Course::Ended => Ok(false),
+            // The input is refused. No other course is met, since `next` has given no row.
             _ => Err(Refused),
         }
     }
 }
 
-/// Has the rows of a reader answered: the lines of each lane.
+/// Has the rows of a reader answered. Gives back the reader, and the lines of each lane if all its rows were answered.
 fn serve_rows<'a, R: Threads + Wait + Sync, S: Source, G: Gate + Sync>(
     rt: &R,
     alloc: Global,
@@ -82,6 +84,7 @@ fn serve_rows<'a, R: Threads + Wait + Sync, S: Source, G: Gate + Sync>(
     year: Year,
     rows: RowReader<'a, S>,
     texts: Vec<String>,
+    pool: RowPool,
     gate: &G,
 ) -> (RowReader<'a, S>, Result<Vec<String>, AnswerFault>)
     requires counts { AreSeatCounts lanes workers }
@@ -89,15 +92,12 @@ fn serve_rows<'a, R: Threads + Wait + Sync, S: Source, G: Gate + Sync>(
     ensures same_reference { result.0.input.source.ghost_name ≡ rows.entry.input.source.ghost_name }
     ensures answered { AreAnswered S.left S.failed lanes year rows.entry.input.source result.0 result.1 }
 {
-    let traffic = RecordRows {
-        rows,
-        texts,
-        pool: RowPool::new(alloc),
-    };
-    // A law, by which the clause follows: this call does nothing.
+    let traffic = RecordRows { rows, texts, pool };
+    // A law, by which the clause `answered` follows: this call does nothing.
     answers_are_read();
     match serve_traffic(rt, alloc, traffic, lanes, workers, year, gate) {
         Ok((traffic, Ended::Done)) => (traffic.rows, Ok(traffic.texts)),
+        // Memory was refused, or a record is: `tell_fault` looks at the reader first.
         Ok((traffic, _)) => (traffic.rows, Err(AnswerFault::NoMemory)),
         Err(
             NotBegun {
@@ -108,8 +108,8 @@ fn serve_rows<'a, R: Threads + Wait + Sync, S: Source, G: Gate + Sync>(
     }
 }
 
-/// What is told where not all rows are answered, of which all were read: a record that has a fault comes before
-/// anything else. If there is no row there is no line.
+/// What is reported if rows could not be served for this fault, after `pass_rows`. If the reader is refused, its reason
+/// comes before the fault. If the source has no record, the report is empty: there was nothing to answer.
 fn tell_fault<S: Source>(
     alloc: Global,
     rows: &RowReader<'_, S>,
@@ -124,19 +124,19 @@ fn tell_fault<S: Source>(
             AnswerFault::NoThread => Err(RowsFault::NoThread),
             AnswerFault::NoMemory => Err(RowsFault::Records(RecordsFault::NoMemory)),
         },
+        // Not met: all were read, though the contract of `pass_rows` does not say so.
         Course::Lines | Course::LastLine | Course::Csv(_) => {
             Err(RowsFault::Records(RecordsFault::NoMemory))
         }
     }
 }
 
-/// The lines that answer the rows that a source gives each lane, lane by lane and by number. This many
-/// workers read the rows beside each other, and each passes the gate before a row.
+/// The lines of `answer_lines` for the rows that a source gives each lane.
 ///
-/// The source gives CSV records of two fields: a lane, and the widths of a row in dots with one
-/// space between them. A record is read when there is room for its row, all rows go through one hub, and
-/// the gate sees each under its number in its lane. The first record that has a fault is reported if there
-/// is one, `NoThread` only if there is none, and a row.
+/// The source gives CSV records of two fields: a lane, and the widths of a row in dots with one space between them. No
+/// record is read while a row waits for room in the hub. The first record that has a fault is reported, unless a read
+/// fails, the input is too long or memory is refused. `NoThread` is reported only if no record has a fault and there is
+/// a row.
 pub fn answer_records<R: Threads + Wait + Sync, S: Source, G: Gate + Sync>(
     rt: &R,
     alloc: Global,
@@ -151,11 +151,15 @@ pub fn answer_records<R: Threads + Wait + Sync, S: Source, G: Gate + Sync>(
     ensures refused { IfErr result (RefusesRows lanes (S.left source.old) (S.left source.new)) }
     ensures fault { TellsFault S.failed source.old source.new result (RowsFault.Records RecordsFault.ReadFault) }
 {
-    let (Ok(texts), Ok(chunk)) = (make_texts(alloc, lanes), make_chunk(alloc)) else {
+    let (Ok(texts), Ok(chunk), Ok(pool)) = (
+        make_texts(alloc, lanes),
+        make_chunk(alloc),
+        RowPool::new(alloc),
+    ) else {
         return Err(RowsFault::Records(RecordsFault::NoMemory));
     };
     let rows = RowReader::new(alloc, lanes, source, chunk);
-    let (mut rows, lines) = serve_rows(rt, alloc, lanes, workers, year, rows, texts, gate);
+    let (mut rows, lines) = serve_rows(rt, alloc, lanes, workers, year, rows, texts, pool, gate);
     let told = match lines {
         Ok(texts) => match joined(alloc, texts) {
             Ok(lines) => Ok(lines),
@@ -166,7 +170,7 @@ pub fn answer_records<R: Threads + Wait + Sync, S: Source, G: Gate + Sync>(
             tell_fault(alloc, &rows, fault)
         }
     };
-    // So it is known what becomes of the source.
+    // Taken out of the reader, so that the clauses about `source` follow.
     let _source = rows.into_source();
     told
 }

@@ -1,9 +1,10 @@
-//! Rows that workers answer, and the report of the answers.
+//! Rows that are all there before workers answer them, and the report of the answers. rows.rt is for rows that are read
+//! meanwhile, and takes what it shares from here.
 ghost use Rattle.std.specs.Prelude.{[], ◌≡◌, ◌↔◌, ◌<◌, All, map, replicate, true, vec_len, IfOk, IsErrOf, IsTrue, string_bytes};
 ghost use Rattle.hub_core.specs.Feeds.{AreGiven, are_given, rests_of};
 ghost use Rattle.hub_core.specs.Serving.{are_counts, items_of};
 ghost use Rattle.command_runs.specs.declared.answers.serving.AnswerFault.TheVariants.{NoMemory};
-ghost use Rattle.command_runs.specs.inner.Reports.{AreLaneLines, AreLinesOf, TellsOf, answer_fault};
+ghost use Rattle.command_runs.specs.inner.AnswerLines.{AreLaneLines, AreLinesOf, TellsOf, answer_fault};
 ghost use Rattle.command_runs.specs.answers.Reports.{IsReport};
 
 use crate::answers::report::{joined, push_line};
@@ -35,7 +36,8 @@ impl From<AllocError> for AnswerFault {
     }
 }
 
-/// Why rows are not answered, if they are not served.
+/// Why rows are not answered, if they are not served. `serve_traffic` never reports `BadCount`. `live_fault_of` of
+/// live/answering.rt is the same for a live input.
 pub fn fault_of(fault: ServeFault) -> AnswerFault
     ensures { result ≡ answer_fault fault }
 {
@@ -52,17 +54,19 @@ fn are_rowless(feeds: &[Vec<Runs>]) -> bool
     feeds.iter().all(|feed| feed.is_empty())
 }
 
-/// The rows that are left of each lane, and the lines that answer the others.
+/// The rows that are left of each lane, and the lines that answer those that have come back. `ListedRows` of hub_core
+/// differs in `bring`, which keeps the delivery in place of a line, and so in `Came`.
 #[derive(Drop)]
 struct AnsweredRows {
     feeds: Feeds,
+    /// The lines of each lane.
     texts: Vec<String>,
 }
 
 impl Traffic for AnsweredRows {
     ghost use Rattle.std.specs.Prelude.{◌≡◌, map, string_bytes};
     ghost use Rattle.hub_core.specs.Feeds.{AreGiven, are_given, rests_of};
-    ghost use Rattle.command_runs.specs.inner.Reports.{AreLinesOf};
+    ghost use Rattle.command_runs.specs.inner.AnswerLines.{AreLinesOf};
 
     type WaitFault = Infallible;
 
@@ -103,7 +107,7 @@ pub fn push_answer_of(texts: &mut Vec<String>, delivery: &Delivery) -> Result<()
     )
 }
 
-/// A text for the lines of each lane.
+/// An empty text for the lines of each lane.
 pub fn make_texts(alloc: Global, lanes: u8) -> Result<Vec<String>, AllocError>
     ensures { IfOk result (λ v. map string_bytes v.items ≡ replicate lanes []) }
 {
@@ -114,7 +118,7 @@ pub fn make_texts(alloc: Global, lanes: u8) -> Result<Vec<String>, AllocError>
     Ok(texts)
 }
 
-/// The lines of each lane.
+/// Has the rows of each feed answered: the lines of each lane.
 fn answer_each<R: Threads + Wait + Sync, G: Gate + Sync>(
     rt: &R,
     alloc: Global,
@@ -132,21 +136,19 @@ fn answer_each<R: Threads + Wait + Sync, G: Gate + Sync>(
         feeds: Feeds::new(alloc, feeds)?,
         texts,
     };
-    // Laws, by which the clause follows: none of these calls does anything.
+    // Laws, by which `traffic` may be served and the clause `lines` follows: neither call does anything.
     feeds_are_given();
     answers_are_read();
     match serve_traffic(rt, alloc, traffic, lanes, workers, year, gate) {
         Ok((traffic, Ended::Done)) => Ok(traffic.texts),
+        // Memory was refused: `wait` of these rows never fails.
         Ok(_) => Err(AnswerFault::NoMemory),
         Err(refused) => Err(fault_of(refused.fault)),
     }
 }
 
-/// The lines that answer the rows of each feed, lane by lane and by number. This many workers read the
-/// rows beside each other, and each passes the gate before a row.
-///
-/// All rows go through one hub, and the gate sees each under its number in its lane. `NoThread` comes only
-/// if a feed has a row.
+/// The lines that answer the rows of each feed, lane by lane and by number. All rows go through one hub, with this many
+/// workers and this gate (`serve_traffic` of hub_core). `NoThread` comes only if a feed has a row.
 pub fn answer_lines<R: Threads + Wait + Sync, G: Gate + Sync>(
     rt: &R,
     alloc: Global,

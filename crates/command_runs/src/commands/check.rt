@@ -8,11 +8,7 @@ use digits_core::{Sink, Source, write_all};
 use element_core::{Year, one_list_or_fault};
 use std::alloc::Global;
 
-/// Checks the texts that a source gives, a line for each in their order.
-///
-/// The source gives CSV records of two fields: a kind, `digit`, `gtin`, `upce` or `text`, and a text
-/// of it. A text that is refused is answered by its fault. Nothing is written unless the whole input
-/// is taken.
+/// Writes the lines of `check_lines` for the texts that a source gives.
 pub fn run_check<S: Source, W: Sink>(
     alloc: Global,
     year: Year,
@@ -26,7 +22,7 @@ pub fn run_check<S: Source, W: Sink>(
     Ok(())
 }
 
-/// Of the same bytes `check` writes one text at most.
+/// A law: of the same bytes `check` writes one text at most.
 pub fn one_check()
     ensures { OneCheck }
 {

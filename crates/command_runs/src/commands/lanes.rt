@@ -12,11 +12,7 @@ use std::alloc::Global;
 use std::sync::Wait;
 use std::thread::Threads;
 
-/// Answers the rows that a source gives, a line for each, lane by lane and by number. Workers read
-/// them beside each other, and each passes the gate before a row.
-///
-/// The source gives CSV records of two fields: a lane, and the widths of a row in dots with one
-/// space between them. Nothing is written unless the whole input is taken.
+/// Writes the lines of `answer_records`, with the lanes, workers and year that the options ask for.
 pub fn run_lanes<R: Threads + Wait + Sync, S: Source, W: Sink, G: Gate + Sync>(
     rt: &R,
     alloc: Global,
@@ -40,7 +36,7 @@ pub fn run_lanes<R: Threads + Wait + Sync, S: Source, W: Sink, G: Gate + Sync>(
     Ok(())
 }
 
-/// Of the same bytes `lanes` writes one text at most.
+/// A law: of the same bytes `lanes` writes one text at most.
 pub fn one_lanes()
     ensures { OneLanes }
 {

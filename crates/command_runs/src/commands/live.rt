@@ -13,12 +13,7 @@ use std::sync::Wait;
 use std::thread::Threads;
 use wire_core::Wire;
 
-/// Answers each record that comes over a wire by one line, in the order of the records. Workers read the rows beside
-/// each other, and each passes the gate before a row.
-///
-/// A record is a line: a lane, a comma, and the widths of a row in dots with one space between them. Before each read
-/// all records that have come are answered. The wire is given back with the end that the run came to; after `NoThread`
-/// it is as it was, so that nothing was read and nothing written.
+/// Runs `answer_live` with the terms that the options ask for. Its fault is given back as the command's.
 pub fn run_live<R: Threads + Wait + Sync, W: Wire + Drop, G: Gate + Sync>(
     rt: &R,
     alloc: Global,

@@ -1,4 +1,4 @@
-//! The command `print`: records of a kind and a text in, the images of their labels out.
+//! The command `print`: records of a kind and a text in, the images of their labels out, or a line for each label.
 ghost use Rattle.command_runs.specs.Runs.{Ran};
 ghost use Rattle.command_runs.specs.commands.Prints.{OnePrint, print_command};
 ghost use Rattle.command_runs.specs.inner.Prints.{LeavesPrinted};
@@ -12,7 +12,7 @@ use element_core::one_list_or_fault;
 use sheet_core::{Grid, Label, check_labels, one_printed, print_pbm};
 use std::alloc::Global;
 
-/// Writes labels as they are asked for.
+/// Writes labels as images or as lines, as the options ask. The same labels are refused either way.
 fn write_labels<W: Sink>(
     alloc: Global,
     options: PrintOptions,
@@ -34,12 +34,9 @@ fn write_labels<W: Sink>(
     Ok(())
 }
 
-/// Prints the labels that a source gives, as images of the sheets that they fill, or if text is
-/// asked for a line for each.
-///
-/// The source gives CSV records of two fields: a kind, `ean13`, `upca`, `ean8`, `upce` or `itf14` with a GTIN,
-/// or `gs1128` with an element string. A grid outside its limits is refused before any input is read.
-/// Nothing is written unless the whole input is taken and every label is printed.
+/// Prints the labels that a source gives (`read_labels`): the images of their sheets, or a line for each label, as the
+/// options ask. A grid outside its limits is refused before any input is read. If a label cannot be printed, nothing is
+/// written.
 pub fn run_print<S: Source, W: Sink>(
     alloc: Global,
     options: PrintOptions,
@@ -53,7 +50,7 @@ pub fn run_print<S: Source, W: Sink>(
     write_labels(alloc, options, grid, labels.as_slice(), sink)
 }
 
-/// Of the same bytes `print` writes one text of bytes at most.
+/// A law: of the same bytes `print` writes one text at most, if only texts of bytes count (`OnePrint` says why).
 pub fn one_print()
     ensures { OnePrint }
 {

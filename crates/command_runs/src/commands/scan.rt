@@ -14,13 +14,9 @@ use std::alloc::Global;
 use std::sync::Wait;
 use std::thread::Threads;
 
-/// Answers the rows of sheets that a source gives as PBM images, a line for each, column by column
-/// and by number. Workers read them beside each other, and each passes the gate before a row.
+/// Writes the lines of `answer_lines` for the rows of sheets that a source gives as PBM images (`read_columns`).
 ///
-/// Column `c` of the grid is lane `c`; its rows are the middle rows of its cells, from top to
-/// bottom, sheet after sheet. A grid outside its limits is refused before any input is read, and an
-/// image of another size than the grid's once all images are read. Nothing is written unless the
-/// whole input is taken.
+/// A grid is refused as in `run_print`, and an image of another size than the grid's once all images are read.
 pub fn run_scan<R: Threads + Wait + Sync, S: Source, W: Sink, G: Gate + Sync>(
     rt: &R,
     alloc: Global,
@@ -40,7 +36,7 @@ pub fn run_scan<R: Threads + Wait + Sync, S: Source, W: Sink, G: Gate + Sync>(
     Ok(())
 }
 
-/// Of the same bytes `scan` writes one text at most.
+/// A law: of the same bytes `scan` writes one text at most.
 pub fn one_scan()
     ensures { OneScan }
 {

@@ -14,7 +14,7 @@ use std::sync::Wait;
 use std::thread::Threads;
 use wire_core::Wire;
 
-/// Why a live input is not answered, if it is not served.
+/// Why a live input is not answered, if it is not served: as `fault_of` of answers/serving.rt for other rows.
 fn live_fault_of(fault: ServeFault) -> LiveFault
     ensures { result ≡ live_fault fault }
 {
@@ -31,17 +31,19 @@ fn ending(stopped: Option<LiveFault>, ended: Ended<Stopped, Infallible>) -> Resu
     match (stopped, ended) {
         (Some(fault), _) => Err(fault),
         (None, Ended::Done) => Ok(()),
+        // Memory was refused to the hub: if `wait` fails, the live input has stopped and says why.
         (None, _) => Err(LiveFault::NoMemory),
     }
 }
 
-/// Answers each record that comes over a wire by one line, in the order of the records, as soon as it can be: a
-/// lane and the widths of a row, or a message of a scanner, with a comma between them, on a line. This many workers read
-/// the rows beside each other, all through one hub, and each passes the gate before a row; a message has no number.
+/// Answers each record that comes over a wire by one line, in the order of the records, as soon as it can. A record is
+/// a line: a lane, a comma, and the widths of a row or a message of a scanner. Workers read the rows as in
+/// `answer_lines`, and the calling thread may read some too, past no gate. The answer to a row has the row's number in
+/// its lane; one to a message or to a refused record has `-` in its place.
 ///
-/// Before each read all records that have come are answered. It ends with the input, or if a read or a write
-/// fails, memory is refused or a thread could not be started. The wire is given back at each end; after
-/// `NoThread` it is as it was, so that nothing was read and nothing written.
+/// Before each read all records whose lines have ended are answered. It ends with the input, or if a read or a write
+/// fails, memory is refused or a thread could not be started. The wire is always given back; after `NoThread` it is as
+/// it was: nothing was read and nothing written.
 pub fn answer_live<R: Threads + Wait + Sync, W: Wire + Drop, G: Gate + Sync>(
     rt: &R,
     alloc: Global,
@@ -54,7 +56,7 @@ pub fn answer_live<R: Threads + Wait + Sync, W: Wire + Drop, G: Gate + Sync>(
     ensures lived { Lived terms W.Did W.read_failed W.write_failed W.at_end wire result.0 result.1 }
     ensures untouched { IsErrOf result.1 LiveFault.NoThread → result.0 ≡ wire }
 {
-    // Field by field: a struct that is handed on whole is not read after it.
+    // Field by field: if `terms` is handed on whole, the borrow checker refuses to read `terms.year` after that.
     let asked = LiveTerms {
         lanes: terms.lanes,
         workers: terms.workers,
@@ -65,7 +67,7 @@ pub fn answer_live<R: Threads + Wait + Sync, W: Wire + Drop, G: Gate + Sync>(
         Ok(live) => live,
         Err(wire) => return (wire, Err(LiveFault::NoMemory)),
     };
-    // A law, by which the clause follows: the call does nothing.
+    // A law, by which the clause `lived` follows: the call does nothing.
     served_by_place();
     match serve_traffic(
         rt,

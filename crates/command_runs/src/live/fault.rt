@@ -1,4 +1,4 @@
-//! Why a live input is answered no longer.
+//! The faults that end a live input, and whether the lines of its last turn may still be written.
 ghost use Rattle.std.specs.Prelude.{◌≡◌, true};
 ghost use Rattle.command_runs.specs.inner.Stops.{MayStillWrite};
 
@@ -15,7 +15,8 @@ pub enum LiveFault {
     NoThread,
 }
 
-/// Whether the lines of a turn may still be written: nothing has stopped, or memory alone was refused.
+/// Whether the lines of a turn may still be written: nothing has stopped, or memory alone was refused. False claims
+/// nothing: the tests of the command `live` notice an answer that is held back.
 pub fn is_open(stopped: Option<LiveFault>) -> bool
     ensures { result ≡ true → MayStillWrite stopped }
 {

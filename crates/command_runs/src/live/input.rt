@@ -4,6 +4,7 @@ ghost use Rattle.hub_core.specs.Traffics.{IsLed, IsOwedNothing, Stays, StaysOwed
 ghost use Rattle.command_runs.specs.inner.Came.{HasBegun, HoldsOn, TakesLine, after_line};
 ghost use Rattle.command_runs.specs.inner.Finish.{is_finished};
 ghost use Rattle.command_runs.specs.inner.Meaning.{IsHeld};
+ghost use Rattle.command_runs.specs.inner.Turns.{AreEnded};
 
 use crate::live::fault::{LiveFault, is_open};
 use crate::live::pending::{PendingReply, push_replies};
@@ -17,21 +18,22 @@ use std::alloc::{AllocError, Global};
 use std::convert::Infallible;
 use wire_core::{Lines, Wire, write_all};
 
-/// How many records are answered in a turn, at most.
+/// How many records are answered in a turn, at most, so that what waits has a limit. The number is a choice for speed,
+/// since a turn ends with a write: no claim rests on it.
 const TURN: usize = 1_024;
 
-/// The live input has stopped; it says why itself.
+/// The live input has stopped: `Live::stopped` says why.
 #[derive(Clone, Copy, Debug, PartialEq, Eq)]
 pub struct Stopped;
 
-/// What was taken of what has come.
+/// What was taken of what has come: one line at most.
 #[derive(Debug, Drop)]
 pub enum NextLine {
-    /// Nothing: no line has ended.
+    /// Nothing: no line that has ended is left.
     Nothing,
-    /// A record that gets no ticket, or a line without one.
+    /// A line that gives no row: it has no byte, or its record gets no ticket.
     Line,
-    /// A row of a lane.
+    /// A line that gives a row of this lane.
     Row(u8, Runs),
 }
 
@@ -42,16 +44,17 @@ pub struct Live<W> {
     pub wire: W,
     alloc: Global,
     terms: LiveTerms,
+    /// The lines of a turn, while they are written.
     text: String,
-    /// The rows of each lane in this turn.
+    /// The rows of each lane in this turn, and their deliveries.
     lanes: Vec<Waiting>,
     /// The replies to the turn's records, in their order.
     replies: Vec<PendingReply>,
     /// The memory of the rows that were answered.
     pool: RowPool,
-    /// What is held of the input.
+    /// What came over the wire and was not taken yet.
     lines: Lines,
-    /// Why nothing more is taken.
+    /// Why nothing more is taken, once it has stopped.
     pub stopped: Option<LiveFault>,
 }
 
@@ -68,6 +71,9 @@ impl<W: Wire> Live<W> {
         let Ok(lines) = Lines::new(alloc) else {
             return Err(wire);
         };
+        let Ok(pool) = RowPool::new(alloc) else {
+            return Err(wire);
+        };
         Ok(Live {
             wire,
             alloc,
@@ -75,18 +81,19 @@ impl<W: Wire> Live<W> {
             text: String::new(alloc),
             lanes,
             replies: Vec::new(alloc),
-            pool: RowPool::new(alloc),
+            pool,
             lines,
             stopped: None,
         })
     }
 
-    /// Keeps the reply to the record that is held, whose line is taken after it.
+    /// Keeps the reply to the record that is held, and says what its line gives. `take_line` takes the line after that.
     fn keep(&mut self, found: Record) -> Result<NextLine, AllocError>
         requires { IsHeld (length self.old.lanes.items) self.old.lines found }
         ensures takes { TakesLine ⟦<Live<W> as Traffic>⟧.Came result self.old (after_line result self.new) }
         ensures holds { HoldsOn self.old self.new }
     {
+        // First, so that no number is spent on a row whose reply finds no room.
         self.replies.reserve(1)?;
         match found {
             Record::Blank => Ok(NextLine::Line),
@@ -108,7 +115,7 @@ impl<W: Wire> Live<W> {
         }
     }
 
-    /// Takes the next line, and keeps the reply to its record.
+    /// Takes the next line, if one has ended, and keeps the reply to its record. If memory is refused, the line stays.
     fn take_line(&mut self) -> Result<NextLine, AllocError>
         requires { IsLed ⟦<Live<W> as Traffic>⟧.Came self.old }
         ensures takes { TakesLine ⟦<Live<W> as Traffic>⟧.Came result self.old self.new }
@@ -132,11 +139,13 @@ impl<W: Wire> Live<W> {
         }
     }
 
-    /// Writes the lines of the turn, whose rows have all come back, unless a read or a write has failed.
+    /// Writes the lines of the turn, whose rows have all come back, and ends the turn: none of its deliveries is kept.
+    /// Nothing is written after a read or a write has failed, or if memory for the lines is refused.
     fn write_turn(&mut self) -> Result<(), Stopped>
         requires { IsOwedNothing ⟦<Live<W> as Traffic>⟧.Came self.old }
         ensures came { StaysOwedNothing ⟦<Live<W> as Traffic>⟧.Came self.old self.new }
         ensures written { OnOk result (self.new.replies.items ≡ []) }
+        ensures ended { OnOk result (AreEnded self.old.lanes.items self.new.lanes.items) }
     {
         if !is_open(self.stopped) {
             return Err(Stopped);
@@ -163,7 +172,7 @@ impl<W: Wire> Live<W> {
         }
     }
 
-    /// Reads what there is, if all lines that have ended are answered. False at the end of the input.
+    /// Reads once, unless a line that has ended is still to be taken. False at the end of the input.
     fn read_on(&mut self) -> Result<bool, Stopped>
         requires { self.old.replies.items ≡ [] }
         ensures came { Stays ⟦<Live<W> as Traffic>⟧.Came self.old self.new }
@@ -202,12 +211,14 @@ impl<W: Wire> Traffic for Live<W> {
 
     ghost Leaves = { λ s t. ⊥ };
 
-    /// To wake a worker takes longer than to read a row that comes alone.
+    /// To wake a worker takes longer than to read a row that comes alone. No claim rests on it: the answers are the
+    /// same.
     fn lets_caller_read(&self) -> bool {
         true
     }
 
     fn next(&mut self) -> Option<(u8, Runs)> {
+        // Lines without a byte have no reply, so the loop has a limit of its own.
         'lines: for _ in 0..TURN {
             if self.stopped.is_some() || self.replies.len() >= TURN {
                 return None;
@@ -227,6 +238,7 @@ impl<W: Wire> Traffic for Live<W> {
 
     fn bring(&mut self, delivery: Delivery) -> Result<(), Infallible> {
         let index = usize::from(delivery.ticket().lane);
+        // `next_number` made the room.
         self.lanes[index].deliveries.push_reserved(delivery);
         Ok(())
     }

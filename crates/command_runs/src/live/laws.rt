@@ -3,15 +3,16 @@ ghost use Rattle.command_runs.specs.live.Laws.{LinesAreRecords, LinesAreReport};
 
 use csv_records::messages_are_no_rows;
 
-/// Of a text without quotes, in which carriage returns stand only at the ends of lines, the records
-/// that `csv` reads are the lines that have a byte, cut at their commas.
+/// Of a plain text (`IsPlain`: no byte order mark in front, no quote, and carriage returns only at the ends of lines),
+/// the records that `csv` reads are the lines that have a byte, without the carriage return at their end, cut at their
+/// commas.
 pub fn lines_are_records()
     ensures { LinesAreRecords }
 {}
 
-/// Where each record of such a text means a row, no line is too long and no lane has more rows than
-/// numbers, `live` answers each row by one line, in the order of the records, and lane by lane these
-/// lines are the report that `lanes` writes.
+/// If each record of a plain text means a row, no line is too long and no lane has more rows than numbers, then `live`
+/// answers each row by one line, in the order of the records, and lane by lane these lines are the report that `lanes`
+/// writes. `live` is asked for the human-readable form, the only one that `lanes` has.
 pub fn lines_are_report()
     ensures { LinesAreReport }
 {

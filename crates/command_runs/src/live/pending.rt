@@ -19,11 +19,11 @@ use std::fmt::Write;
 pub enum PendingReply {
     /// The answer to the row of this lane and number.
     Row(u8, u32),
-    /// What is reported of a record that is no row.
+    /// The notice, in place of an answer.
     Notice(Notice),
 }
 
-/// Appends the line of a message.
+/// Appends the line of a message: its lane, `-` in place of a number, and what it says.
 fn push_message(
     text: &mut String,
     terms: &LiveTerms,
@@ -39,7 +39,7 @@ fn push_message(
     text.push('\n')
 }
 
-/// Appends the line of a notice.
+/// Appends the line of a notice, with `-` in place of a number, and of a lane if it names none.
 fn push_notice(text: &mut String, terms: &LiveTerms, notice: &Notice) -> Result<(), AllocError>
     ensures { Adds result text.old text.new (IsToldBy terms.now (told_of notice.now)) }
 {

@@ -13,19 +13,19 @@ use std::alloc::{AllocError, Global};
 use std::fmt;
 use wire_core::{Lines, MOST_LINE};
 
-/// Why a record gets no ticket.
+/// Why a record is refused.
 #[derive(Clone, Copy, Debug, PartialEq, Eq)]
 pub enum LineFault {
     /// It has a fault.
     Record(RecordFault),
-    /// Its line has more bytes than a line may have.
+    /// Its line has more than `MOST_LINE` bytes.
     InputSize,
     /// Its lane has had all its tickets.
     Spent,
 }
 
 impl LineFault {
-    /// The refusal that an output line reports.
+    /// The refusal that the answer to the record reports.
     fn refusal(self) -> Refusal
         ensures { refusal_text result.kind result.place ≡ line_fault_text self }
     {
@@ -46,12 +46,12 @@ impl fmt::Display for LineFault {
     }
 }
 
-/// What is reported of a record that is no row.
+/// What is reported of a record that gets no ticket: in specs/ it is a `Told`, by `told_of`.
 #[derive(Debug, Drop)]
 pub enum Notice {
-    /// What a message of a scanner says, of this lane.
+    /// A message of a scanner: its lane, and its text.
     Message(u8, Vec<u8>),
-    /// Why the record gets no ticket, and the lane that it names.
+    /// The lane, if one was read from the record, and why it gets no ticket.
     Refused(Option<u8>, LineFault),
 }
 
@@ -62,11 +62,12 @@ pub enum Record {
     Blank,
     /// A row of a lane.
     Row(u8, Runs),
-    /// A record that is no row.
+    /// A record that gives no row.
     Notice(Notice),
 }
 
-/// The record of two fields.
+/// The record of two fields. `read_fields` of answers/lines.rt reads them for the command `lanes`, whose refusal names
+/// no lane.
 fn read_row(pool: &mut RowPool, lanes: u8, lane: &[u8], widths: &[u8]) -> Result<Record, AllocError>
     ensures { IfOk result (ReadAs lanes (fields_meant lanes (lane.now ∷ widths.now ∷ []))) }
 {
@@ -82,7 +83,7 @@ fn read_row(pool: &mut RowPool, lanes: u8, lane: &[u8], widths: &[u8]) -> Result
     }
 }
 
-/// The record of a message of a scanner.
+/// The record of a lane and a message of a scanner. A wrong lane is refused as in `read_row`.
 fn read_message(alloc: Global, lanes: u8, lane: &[u8], text: &[u8]) -> Result<Record, AllocError>
     ensures { IfOk result (ReadAs lanes (message_meant lanes lane.now text.now)) }
 {
@@ -92,7 +93,7 @@ fn read_message(alloc: Global, lanes: u8, lane: &[u8], text: &[u8]) -> Result<Re
     Ok(Record::Notice(Notice::Message(lane, text.to_vec(alloc)?)))
 }
 
-/// The record of a line that has a byte and not too many.
+/// The record of a line that has 1 to `MOST_LINE` bytes. `read_line` of answers/lines.rt reads one that is no message.
 fn read_record(
     alloc: Global,
     pool: &mut RowPool,
@@ -105,6 +106,7 @@ fn read_record(
         Some(comma) => {
             let lane = &line[..comma];
             let text = &line[comma + 1..];
+            // First, since a message may have commas.
             if is_message(text) {
                 return read_message(alloc, lanes, lane, text);
             }
@@ -130,7 +132,7 @@ pub fn without_return(line: &[u8]) -> &[u8]
     }
 }
 
-/// The record of a line.
+/// What a line that was not cut means: `Blank`, if it has no byte besides a carriage return at its end.
 fn line_record(
     alloc: Global,
     pool: &mut RowPool,
@@ -143,13 +145,14 @@ fn line_record(
     if line.is_empty() {
         return Ok(Record::Blank);
     }
+    // `Lines` cuts a line only if too much of it is held when it reads: a whole line may be too long.
     if line.len() > MOST_LINE {
         return Ok(Record::Notice(Notice::Refused(None, LineFault::InputSize)));
     }
     read_record(alloc, pool, lanes, line)
 }
 
-/// The record of the line that is held, and how many bytes are held of the line.
+/// How many bytes are held of the next line, and its record. None if no line that has ended is held.
 pub fn next_record(
     alloc: Global,
     pool: &mut RowPool,

@@ -32,8 +32,8 @@ pub fn make_lanes(alloc: Global, count: u8) -> Result<Vec<Waiting>, AllocError>
     Ok(lanes)
 }
 
-/// The lane's next number, for one more row, with room for its delivery; none if the lane has had all its
-/// numbers.
+/// The lane's next number, for one more row, with room for its delivery. None if the lane has had all its numbers, as
+/// many as `serve_traffic` has tickets for it (`most_rows` in specs/live/Replies).
 fn take_number(waiting: &mut Waiting) -> Result<Option<u32>, AllocError>
     ensures { TakesNumber result waiting.old waiting.new }
 {
@@ -41,13 +41,14 @@ fn take_number(waiting: &mut Waiting) -> Result<Option<u32>, AllocError>
     if number == u32::MAX {
         return Ok(None);
     }
+    // The rows of the turn with this one. `first` is never above `number`, though no `requires` says so.
     let turn = number.saturating_sub(waiting.first) as usize + 1;
     waiting.deliveries.reserve(turn)?;
     waiting.next = number + 1;
     Ok(Some(number))
 }
 
-/// The next number of this lane.
+/// The next number of this lane, by `take_number`.
 pub fn next_number(lanes: &mut Vec<Waiting>, lane: u8) -> Result<Option<u32>, AllocError>
     requires { lane < vec_len lanes.old }
     ensures { TakesNumberOf lane result lanes.old.items lanes.new.items }
@@ -55,7 +56,7 @@ pub fn next_number(lanes: &mut Vec<Waiting>, lane: u8) -> Result<Option<u32>, Al
     take_number(&mut lanes[usize::from(lane)])
 }
 
-/// Ends a lane's turn: all its deliveries have been written. The pool keeps the memory of their rows.
+/// Ends a lane's turn, once all its deliveries have been written. The memory of their rows goes to the pool.
 fn end_lane(waiting: &mut Waiting, pool: &mut RowPool)
     ensures { IsEnded waiting.old waiting.new }
 {
@@ -65,7 +66,7 @@ fn end_lane(waiting: &mut Waiting, pool: &mut RowPool)
     }
 }
 
-/// Ends the turn: all deliveries have been written. The pool keeps the memory of their rows.
+/// Ends the turn of each lane, by `end_lane`.
 pub fn end_turn(lanes: &mut Vec<Waiting>, pool: &mut RowPool)
     ensures { AreEnded lanes.old.items lanes.new.items }
 {

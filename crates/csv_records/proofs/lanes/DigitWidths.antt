@@ -6,11 +6,11 @@ use Rattle.std.specs.Option.{IfNone, IfSome}
 use Rattle.std.proofs.Math.Dec.{leb}
 use Rattle.std.proofs.lemmas.Bool.{and_parts, cases_eq, le-leb, leb-true}
 use Rattle.std.proofs.lemmas.List.{append-nil, append_assoc, drop-drop, get_or-drop, get_or-set_other, get_or-set_same, length-drop, length-take-le, take_all, take_more}
-use Rattle.csv_records.specs.inner.Widths.{BeginsWithDigits, IsDigitWord}
+use Rattle.csv_records.specs.inner.FrontWidths.{BeginsWithDigits, IsDigitWord}
 use Rattle.csv_records.proofs.Decimals.{digit_range}
 use Rattle.csv_records.proofs.lanes.FieldWords.{AreRead, one_digit}
 
--- one more that was found
+-- if each pair so far and the next are a digit before a space, the widths with the next one set are theirs
 pub found_more : (text widths : List ℕ) (i width : ℕ) (each : Bool) → i < length widths → (each ≡ true → (k : ℕ) → k < i → IsDigitWord text k (get_or widths k 0))
     → (width ≤ 9 → IsDigitWord text i width) → each && leb width 9 ≡ true → (k : ℕ) → k < i + 1 → IsDigitWord text k (get_or (set widths i width) k 0)
 found_more text widths i width each low found here all k less =
@@ -22,13 +22,13 @@ found_more text widths i width each low found here all k less =
       | inr other ↦ subst (IsDigitWord text k) (sym (get_or-set_other widths i k width 0 other)) (found parts.0 k (omega (arith, less, other)))
     ]
 
--- where one is no digit before a space, the text begins with no such widths
-pub none_more : (text : List ℕ) (i count width : ℕ) (each : Bool) → i < count
+-- if a pair so far or the next is no digit before a space, the text begins with no `count` widths of one digit
+pub no_digits_more : (text : List ℕ) (i count width : ℕ) (each : Bool) → i < count
     → (each ≡ false → (ws : List ℕ) → length ws ≡ count → BeginsWithDigits text ws → ⊥)
     → (is_ascii_digit (get_or text (2 * i) 0) ≡ true → get_or text (2 * i + 1) 0 ≡ 32 → width ≡ get_or text (2 * i) 0 - 48)
     → each && leb width 9 ≡ false → (ws : List ℕ) → length ws ≡ count → BeginsWithDigits text ws → ⊥
-none_more text i count width false low before here all ws long begins = before refl ws long begins
-none_more text i count width true low before here all ws long begins =
+no_digits_more text i count width false low before here all ws long begins = before refl ws long begins
+no_digits_more text i count width true low before here all ws long begins =
     let there = begins i (omega (arith, long, low)) in
     let is = here there.0 there.1 in
     let range = digit_range (get_or text (2 * i) 0) there.0 in
@@ -36,7 +36,7 @@ none_more text i count width true low before here all ws long begins =
     let clash : true ≡ false = sym (le-leb width 9 small) ∙ all in
     cc clash
 
--- what is given where all were found
+-- what is true of the widths if `then_some` gives them, and what is true if it gives none
 pub given : (each : Bool) (widths : List ℕ) (P : List ℕ → Type 0) → (each ≡ true → P widths) → IfSome (then_some each widths) P
 given true widths P here = here refl
 given false widths P here = tt
@@ -45,15 +45,15 @@ pub not_given : (each : Bool) (widths : List ℕ) (Q : Type 0) → (each ≡ fal
 not_given true widths Q here = tt
 not_given false widths Q here = here refl
 
--- the first of them are read
-first_read : (words : List (List ℕ)) (n : ℕ) (text found widths : List ℕ) (is_wide : Bool) → BeginsWithDigits text widths → 2 * length widths ≤ length text
+-- if the text begins with widths of one digit, the first `n` of them are read, and a word is left
+first_digits_read : (words : List (List ℕ)) (n : ℕ) (text found widths : List ℕ) (is_wide : Bool) → BeginsWithDigits text widths → 2 * length widths ≤ length text
     → n ≤ length widths
     → length found < length words → AreRead words text found is_wide → (length found + n < length words)
     × AreRead words (drop (2 * n) text) (found ++ take n widths) is_wide
-first_read words zero text found widths is_wide begins long few low read =
+first_digits_read words zero text found widths is_wide begins long few low read =
     (omega (arith, low), subst (λ t. AreRead words text t is_wide) (sym (append-nil found)) read)
-first_read words (suc n) text found widths is_wide begins long few low read =
-    let before = first_read words n text found widths is_wide begins long (omega (arith, few)) low read in
+first_digits_read words (suc n) text found widths is_wide begins long few low read =
+    let before = first_digits_read words n text found widths is_wide begins long (omega (arith, few)) low read in
     let rest = drop (2 * n) text in
     let here = begins n (omega (arith, few)) in
     let count : length (found ++ take n widths) ≡ length found + n =
@@ -73,13 +73,13 @@ first_read words (suc n) text found widths is_wide begins long few low read =
     ∙ ap (λ t. found ++ t) (sym (take_more widths n 0 (omega (arith, few))) ∙ ap (λ k. take k widths) next) in
     (omega (arith, one.0, count), subst (λ t. AreRead words (drop (2 * suc n) text) t is_wide) more one.1)
 
--- all of them are read
+-- all of them are read, and the text is cut as `read_widths` cuts it
 pub digits_read : (words : List (List ℕ)) (n : ℕ) (text found widths : List ℕ) (is_wide : Bool) → BeginsWithDigits text widths → length widths ≡ n
     → 2 * n ≤ length text
     → length found < length words → AreRead words text found is_wide
     → (length found + n < length words) × AreRead words (take (length text - 2 * n) (drop (2 * n) text)) (found ++ widths) is_wide
 digits_read words n text found widths is_wide begins count long low read =
-    let first = first_read words n text found widths is_wide begins (omega (arith, count, long)) (omega (arith, count)) low read in
+    let first = first_digits_read words n text found widths is_wide begins (omega (arith, count, long)) (omega (arith, count)) low read in
     let rest : take (length text - 2 * n) (drop (2 * n) text) ≡ drop (2 * n) text =
     take_all (length text - 2 * n) (drop (2 * n) text) (omega (arith, length-drop (2 * n) text)) in
     let whole : take n widths ≡ widths = take_all n widths (omega (arith, count)) in (

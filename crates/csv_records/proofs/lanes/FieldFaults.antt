@@ -2,34 +2,34 @@
 use Rattle.std.proofs.Common.{◌≡◌, ◌∙◌, Bool, List, None, Some, ap, false, refl, sym, true, ℕ}
 use Rattle.scan_core.specs.Row.{runs_fault}
 use Rattle.scan_core.specs.declared.fault.RunFault.TheVariants as run
-use Rattle.csv_records.specs.inner.Widths.{capped, has_wide}
+use Rattle.csv_records.specs.inner.FrontWidths.{capped, has_wide}
 use Rattle.csv_records.specs.lanes.Widths.{are_widths, field_fault, of_runs, widths_in, words_of}
 use Rattle.csv_records.specs.declared.input.fault.RecordFault.TheVariants as fault
 use Rattle.csv_records.proofs.lanes.Capped.{bad_capped, capped_narrow, one_wide, wide_capped}
 
--- a field whose words are widths has the fault of the widths
+-- a field whose words are widths has the fault of its widths, or none if they have none
 fault_of_widths : (field : List ℕ) → are_widths (words_of field) ≡ true → field_fault field ≡ of_runs (runs_fault (widths_in field))
 fault_of_widths field words = rw words refl
 
--- they are a row and none is capped
-pub row_taken : (field ws : List ℕ) (wide : Bool) → are_widths (words_of field) ≡ true → ws ≡ capped (widths_in field)
+-- if the capped widths are a row and no width is above 65,535, the field shows this row and has no fault
+pub capped_taken : (field ws : List ℕ) (wide : Bool) → are_widths (words_of field) ≡ true → ws ≡ capped (widths_in field)
     → wide ≡ has_wide (widths_in field) → wide ≡ false → runs_fault ws ≡ None → (ws ≡ widths_in field) × (field_fault field ≡ None)
-row_taken field ws wide words is flag narrow row =
+capped_taken field ws wide words is flag narrow row =
     let same : ws ≡ widths_in field = is ∙ capped_narrow (widths_in field) (sym flag ∙ narrow) in
     (same, fault_of_widths field words ∙ ap of_runs (ap runs_fault (sym same) ∙ row))
 
--- they are a row and one is capped
-pub row_too_wide : (field ws : List ℕ) (wide : Bool) → are_widths (words_of field) ≡ true → ws ≡ capped (widths_in field)
+-- if the capped widths are a row and a width is above 65,535, the field has the fault `TooWide`
+pub capped_too_wide : (field ws : List ℕ) (wide : Bool) → are_widths (words_of field) ≡ true → ws ≡ capped (widths_in field)
     → wide ≡ has_wide (widths_in field) → wide ≡ true → runs_fault ws ≡ None → field_fault field ≡ Some fault.TooWide
-row_too_wide field ws wide words is flag some row =
+capped_too_wide field ws wide words is flag some row =
     fault_of_widths field words ∙ ap of_runs (one_wide (widths_in field) (ap runs_fault (sym is) ∙ row) (sym flag ∙ some))
 
--- their number or an inner one is at fault
-pub row_bad : (field ws : List ℕ) → are_widths (words_of field) ≡ true → ws ≡ capped (widths_in field)
+-- if the number of the capped widths or an inner one is at fault, the field has the fault `BadRuns`
+pub capped_bad : (field ws : List ℕ) → are_widths (words_of field) ≡ true → ws ≡ capped (widths_in field)
     → runs_fault ws ≡ Some run.BadRuns → field_fault field ≡ Some fault.BadRuns
-row_bad field ws words is bad = fault_of_widths field words ∙ ap of_runs (bad_capped (widths_in field) (ap runs_fault (sym is) ∙ bad))
+capped_bad field ws words is bad = fault_of_widths field words ∙ ap of_runs (bad_capped (widths_in field) (ap runs_fault (sym is) ∙ bad))
 
--- their sum is at fault
-pub row_wide : (field ws : List ℕ) → are_widths (words_of field) ≡ true → ws ≡ capped (widths_in field)
+-- if the sum of the capped widths is at fault, the field has the fault `TooWide`
+pub capped_sum_wide : (field ws : List ℕ) → are_widths (words_of field) ≡ true → ws ≡ capped (widths_in field)
     → runs_fault ws ≡ Some run.TooWide → field_fault field ≡ Some fault.TooWide
-row_wide field ws words is bad = fault_of_widths field words ∙ ap of_runs (wide_capped (widths_in field) (ap runs_fault (sym is) ∙ bad))
+capped_sum_wide field ws words is bad = fault_of_widths field words ∙ ap of_runs (wide_capped (widths_in field) (ap runs_fault (sym is) ∙ bad))

@@ -13,7 +13,7 @@ use Rattle.csv_records.specs.declared.input.fault.RecordFault.{RecordFault}
 use Rattle.element_core.specs.Terms.{Terms}
 use Rattle.csv_records.specs.declared.input.fault.RecordFault.TheVariants as fault
 
--- the kind of this name
+-- the kind of check that a record names
 abbrev pub check_kind_named : List ℕ → Option CheckKind
 check_kind_named name =
     if bytes_eq name (codes "digit") then Some kind.Digit
@@ -22,7 +22,7 @@ check_kind_named name =
     else if bytes_eq name (codes "text") then Some kind.Text
     else None
 
--- ---- lines
+-- ---- the lines that answer records
 
 -- the line of a text, as one of this kind
 abbrev pub IsLineAs : Terms → CheckKind → List ℕ → List ℕ → Type 0
@@ -31,17 +31,17 @@ IsLineAs year kind.Gtin text line = line ≡ gtin_line text
 IsLineAs year kind.Upce text line = IsUpceLine line_of_gtin text line
 IsLineAs year kind.Text text line = IsElementsLine (codes "hri") hri year (spelled text) line
 
--- the same by the name of the kind
+-- the line of a text, by the kind that its record names, or the fault of a name of no kind
 abbrev pub IsLineBy : Terms → Option CheckKind → List ℕ → Result Line RecordFault → Type 0
 IsLineBy year (Some kind) text (Ok l) = IsLineAs year kind text (line_text l)
 IsLineBy year (Some kind) text (Err f) = ⊥
 IsLineBy year None text r = r ≡ Err fault.Kind
 
--- what a record means: the line of its text, or its fault: the number of its fields, then its kind
+-- what a record means: the line of its text, or its first fault: the number of its fields, then its kind
 abbrev pub check_meaning : Terms → Meaning Line
 check_meaning year (name ∷ text ∷ []) r = IsLineBy year (check_kind_named name) text r
 check_meaning year _ r = r ≡ Err fault.Csv
 
--- the lines, each with a line feed at its end
+-- all lines, each with a line feed at its end
 abbrev pub check_report : List Line → List ℕ
 check_report lines = flat_map (λ l. line_text l ++ (10 ∷ [])) lines

@@ -13,7 +13,7 @@ use Rattle.csv_records.specs.declared.input.fault.RecordRefusal.TheVariants as o
 use Rattle.csv_records.specs.declared.input.fault.RecordsFault.{RecordsFault}
 use Rattle.csv_records.specs.declared.input.fault.RecordsFault.TheVariants as records
 
--- of a record: `refused`, its number, its name and, if it has one, its place in the second field
+-- the text of a record's fault: `refused`, its number, its name and, if it has one, its place in the second field
 abbrev pub record_fault_text : RecordFault → List ℕ
 record_fault_text fault.Csv = refusal_words refusal.Csv
 record_fault_text fault.Kind = refusal_words refusal.Kind
@@ -33,7 +33,7 @@ of_input input.NoMemory = records.NoMemory
 abbrev pub of_record : RecordFault → RecordRefusal
 of_record f = one.Record f
 
--- a refused growth, as a record's refusal
+-- a failed allocation, as a record's refusal
 abbrev pub no_room : RecordRefusal
 no_room = one.NoMemory
 

@@ -13,7 +13,7 @@ use Rattle.csv_records.specs.declared.input.records.Records.{Records}
 abbrev pub left_in : Cursor (Vec ℕ) → Option (List ℕ)
 left_in = cursor_remaining (λ v. Some v.items)
 
--- of the bytes these records were read so far
+-- these records of the bytes, `rows`, were read so far, by a reader with the settings of `records_of`
 pub record HasRead (bytes : List ℕ) (r : Records) (rows : List Fields) : Type 0 where
   pub plain : r.reader.trim ≡ trim.None
   pub ready : Ready r.reader

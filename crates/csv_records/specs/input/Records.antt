@@ -1,4 +1,4 @@
--- The records of an input, and the first that is refused.
+-- The records of an input, what they mean to a command, and the first with a fault.
 use Rattle.std.specs.Prelude.{◌≡◌, ◌≤◌, ⊤, ℕ, List, Option, Result, Ok, Err, Some, length, slice_get, take}
 use Rattle.std.specs.List.{AllZip}
 use Rattle.digits_core.specs.Bytes.{GaveAll, GaveAtMost, GaveMoreThan}
@@ -31,7 +31,7 @@ pub record IsFirstFault {Item : Type 0} (means : Meaning Item) (rows : List Fiel
   pub before : AreItems means (take i rows) items
   pub faulty : means fields (Err f)
 
--- how many bytes a command reads
+-- how many bytes a command reads at most: `INPUT_LIMIT` in src/
 abbrev pub most_bytes : ℕ
 most_bytes = 16777216
 
@@ -43,7 +43,7 @@ Mean means bytes items = (length bytes ≤ most_bytes) × AreItems means (record
 abbrev pub Takes : {Item : Type 0} → Meaning Item → (List Item → Type 0) → Option (List ℕ) → Option (List ℕ) → Type 0
 Takes means made left rest = (bytes : List ℕ) × GaveAll left rest bytes × (items : List _) × Mean means bytes items × made items
 
--- why the records are refused
+-- what is true of a source and its records if they are refused with this fault; of `NoMemory` nothing is claimed
 abbrev pub Refuses : {Item : Type 0} → Meaning Item → Option (List ℕ) → Option (List ℕ) → RecordsFault → Type 0
 Refuses means left rest refused.ReadFault = GaveAtMost most_bytes left rest
 Refuses means left rest refused.InputSize = GaveMoreThan most_bytes left rest

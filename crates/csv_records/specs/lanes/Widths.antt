@@ -9,7 +9,7 @@ use Rattle.scan_core.specs.declared.fault.RunFault.TheVariants as run
 use Rattle.csv_records.specs.declared.input.fault.RecordFault.{RecordFault}
 use Rattle.csv_records.specs.declared.input.fault.RecordFault.TheVariants as fault
 
--- one to `most` decimal digits, and nothing else
+-- the text is one to `most` decimal digits, and nothing else
 abbrev pub is_number : ℕ → List ℕ → Bool
 is_number most text = nat_le 1 (length text) && (nat_le (length text) most && list_all is_ascii_digit text)
 
@@ -21,7 +21,7 @@ number_in most text = if is_number most text then Some (digits_value 10 text) el
 abbrev pub words_of : List ℕ → List (List ℕ)
 words_of field = slice_split (λ b. b == 32) field
 
--- each of these is one to five digits
+-- each of these words is one to five digits: 65,535, the largest sum of a row, has five
 abbrev pub are_widths : List (List ℕ) → Bool
 are_widths words = list_all (is_number 5) words
 
@@ -29,13 +29,13 @@ are_widths words = list_all (is_number 5) words
 abbrev pub widths_in : List ℕ → List ℕ
 widths_in field = map (digits_value 10) (words_of field)
 
--- a fault of the widths, as the record's
+-- a fault of the widths, as the record's; `runs_fault` never gives `NoMemory`
 abbrev pub of_runs : Option RunFault → Option RecordFault
 of_runs (Some run.BadRuns) = Some fault.BadRuns
 of_runs (Some run.TooWide) = Some fault.TooWide
 of_runs (Some run.NoMemory) = None
 of_runs None = None
 
--- why a field shows no row, if it shows none: its words, then the number of its widths and the inner ones, then their sum
+-- why a field shows no row, if it shows none: its words, then the number of its widths and the inner ones, then the sum of all
 abbrev pub field_fault : List ℕ → Option RecordFault
 field_fault field = if are_widths (words_of field) then of_runs (runs_fault (widths_in field)) else Some fault.BadRuns

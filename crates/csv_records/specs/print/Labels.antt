@@ -1,5 +1,5 @@
 -- The labels of records, each a kind and a text, and their lines.
-use Rattle.std.specs.Prelude.{◌≡◌, ◌++◌, ◌+◌, ◌/◌, ◌%◌, ℕ, List, [], ◌∷◌, Option, Some, None, Result, Ok, Err}
+use Rattle.std.specs.Prelude.{◌≡◌, ◌++◌, ◌+◌, ◌/◌, ◌%◌, ℕ, List, [], ◌∷◌, Option, Some, None, Result, Ok, Err, option_map}
 use Rattle.std.specs.Fmt.{decimal}
 use Rattle.digits_core.specs.Digits.{digits_of, padded}
 use Rattle.digits_core.specs.Gtins.{gtin_fault}
@@ -21,8 +21,7 @@ use Rattle.csv_records.specs.declared.input.fault.RecordFault.TheVariants as fau
 
 -- a fault of digits, as the record's
 abbrev pub of_digits : Option DigitFault → Option RecordFault
-of_digits (Some f) = Some (fault.Digits f)
-of_digits None = None
+of_digits = option_map fault.Digits
 
 -- ---- labels
 
@@ -31,7 +30,7 @@ abbrev pub IsGtinLabel : GtinKind → List ℕ → Result Label RecordFault → 
 IsGtinLabel kind text (Ok l) = (gtin_fault text ≡ None) × (l ≡ gtin_label kind (padded (digits_of text)))
 IsGtinLabel kind text (Err f) = of_digits (gtin_fault text) ≡ Some f
 
--- the label of the elements that a text says (section 7.8), or their first fault
+-- the label of the elements that a text says (GS1 General Specifications, section 7.8), or their first fault
 abbrev pub IsElementLabel : Terms → List ℕ → Result Label RecordFault → Type 0
 IsElementLabel year text (Ok l) = (es : Listing) × (l ≡ label.Gs1128 es) × (es.year ≡ year) × IsElements year text es.list
 IsElementLabel year text (Err f) = (e : ElementFault) × (f ≡ fault.Elements e) × FirstFault year text e
@@ -41,12 +40,12 @@ abbrev pub IsLabelAs : Terms → LabelKind → List ℕ → Result Label RecordF
 IsLabelAs year (kind.Gtin k) field r = IsGtinLabel k field r
 IsLabelAs year kind.Gs1128 field r = IsElementLabel year (spelled field) r
 
--- the same by the name of the kind
+-- the label of a field, by the kind that its record names, or the fault of a name of no kind
 abbrev pub IsLabelBy : Terms → Option LabelKind → List ℕ → Result Label RecordFault → Type 0
 IsLabelBy year (Some kind) field r = IsLabelAs year kind field r
 IsLabelBy year None field r = r ≡ Err fault.Kind
 
--- what a record means: a label, or its fault: the number of its fields, then its kind, then its second field
+-- what a record means: a label, or its first fault: the number of its fields, then its kind, then its second field
 abbrev pub print_meaning : Terms → Meaning Label
 print_meaning year (name ∷ field ∷ []) r = IsLabelBy year (kind_named name) field r
 print_meaning year _ r = r ≡ Err fault.Csv
@@ -71,5 +70,6 @@ abbrev pub label_lines_from : ℕ → ℕ → List Label → List ℕ
 label_lines_from cells i [] = []
 label_lines_from cells i (l ∷ rest) = label_line cells i l ++ label_lines_from cells (i + 1) rest
 
+-- the lines of all labels: the first label is in the first cell of the first sheet
 abbrev pub label_lines : ℕ → List Label → List ℕ
 label_lines cells = label_lines_from cells 0

@@ -1,4 +1,4 @@
-//! The lines of texts that are checked.
+//! What texts are checked as, and the lines that answer them.
 ghost use Rattle.std.specs.Prelude.{◌≡◌, codes};
 ghost use Rattle.element_core.specs.Elements.{hri};
 ghost use Rattle.element_core.specs.Lines.{IsElementsLine, line_of_gtin, line_text};
@@ -22,7 +22,7 @@ pub enum CheckKind {
     Text,
 }
 
-/// The kind of this name.
+/// The kind of check that a record names.
 pub fn kind_named(name: &[u8]) -> Option<CheckKind>
     ensures { result ≡ check_kind_named name.now }
 {

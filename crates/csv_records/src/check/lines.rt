@@ -1,4 +1,4 @@
-//! Records of a kind and a text in, a line for each out.
+//! The records of `check`, and the lines that answer them.
 ghost use Rattle.std.specs.Prelude.{◌≡◌, ◌↔◌, true, false, IfErr, IfOk, IsErrOf, string_bytes};
 ghost use Rattle.csv_records.specs.check.Checks.{check_meaning, check_report};
 ghost use Rattle.csv_records.specs.input.Records.{Refuses, Takes};
@@ -36,10 +36,10 @@ impl Intake for CheckRecords {
     }
 }
 
-/// The lines that answer the texts that a source gives, in their order.
+/// The lines that answer the texts that a source gives, in their order. The clauses are those of `read_input`.
 ///
-/// The source gives CSV records of two fields: a kind, `digit`, `gtin`, `upce` or `text`, and a text
-/// of it. A text that is refused is answered by its fault.
+/// A CSV record must have two fields: the name of a kind, which `kind_named` knows, and a text of this kind. A refused
+/// text is answered by its fault, and refuses no record.
 pub fn check_lines<S: Source>(
     alloc: Global,
     year: Year,

@@ -8,14 +8,15 @@ use element_core::ElementFault;
 use std::alloc::AllocError;
 use std::fmt;
 
-/// What is wrong with a record of the input.
+/// What is wrong with a record of the input. `lane_row`, `check_meaning` and `print_meaning` in specs/ say which record
+/// has which fault.
 #[derive(Clone, Copy, Debug, PartialEq, Eq)]
 pub enum RecordFault {
     /// It has not two fields.
     Csv,
     /// Its first field is no kind of text that the command takes.
     Kind,
-    /// Its first field is no lane: one or two digits, below the number of lanes.
+    /// Its first field is no lane, which is one or two digits that show a number below that of the lanes.
     BadLane,
     /// Its second field is no odd number of widths of one to five digits with one space between
     /// them, or a width other than the first and the last is 0.
@@ -29,7 +30,7 @@ pub enum RecordFault {
 }
 
 impl RecordFault {
-    /// The refusal that an output line reports.
+    /// What an output line reports of this fault of a record.
     pub fn refusal(self) -> Refusal
         ensures { refusal_text result.kind result.place ≡ record_fault_text self }
     {
@@ -54,18 +55,21 @@ impl fmt::Display for RecordFault {
     }
 }
 
-/// Why the records of an input are not taken.
+/// Why the records of an input are not taken: a fault of reading it (`InputFault`), or of a record.
 #[derive(Clone, Copy, Debug, PartialEq, Eq)]
 pub enum RecordsFault {
-    /// A read of the input failed.
+    /// A read failed.
     ReadFault,
-    /// The input has more bytes than a command reads.
+    /// The input has more than `INPUT_LIMIT` bytes.
     InputSize,
-    /// The record at this index, from 0, is the first that has a fault.
+    /// The first record that has a fault: its index, from 0, and its fault.
     Record(usize, RecordFault),
-    /// A growth was refused.
+    /// An allocation failed.
     NoMemory,
 }
+
+// What a fault of a lower layer is for the records or for one record. The clauses `from_gives` name a definition of
+// specs/input/Faults, or `NoMemory` itself.
 
 impl From<InputFault> for RecordsFault {
     ghost from_gives = { λ fault records. records ≡ of_input fault };
@@ -94,7 +98,7 @@ impl From<AllocError> for RecordsFault {
 pub enum RecordRefusal {
     /// It has a fault.
     Record(RecordFault),
-    /// A growth was refused.
+    /// An allocation failed.
     NoMemory,
 }
 

@@ -2,7 +2,7 @@
 ghost use Rattle.std.specs.Prelude.{None, Some, [], ◌≡◌, ◌≢◌, ◌∷◌, ◌++◌, ◌↔◌, ◌≤◌, List, Option, length, true, false, IfErr, IfNone, IfSome, IsErrOf, OnOk};
 ghost use Rattle.csv.specs.Records.{fields_of};
 ghost use Rattle.csv_records.specs.input.Records.{AreItems, Meaning, Refuses, Takes, records_of};
-ghost use Rattle.csv_records.specs.inner.Records.{NamesFirst};
+ghost use Rattle.csv_records.specs.inner.Refusals.{NamesFirst};
 ghost use Rattle.csv_records.specs.declared.input.fault.RecordFault.{RecordFault};
 
 use crate::input::fault::{RecordRefusal, RecordsFault};
@@ -11,7 +11,9 @@ use digits_core::{Source, read_all};
 use std::alloc::Global;
 use std::io::Cursor;
 
-/// How many bytes a command reads at most: `most_bytes` in specs/.
+/// How many bytes a command reads at most: `most_bytes` in specs/. The limit bounds the memory and the time of a
+/// command, which tests/sizes/run prints for inputs of this size. page/lists.js, python/noriladle/_lists.py,
+/// tables/remedies.tsv, docs/HUB.md and tests/ repeat it.
 pub const INPUT_LIMIT: usize = 16_777_216;
 
 /// What a command makes of records.
@@ -51,7 +53,7 @@ pub fn two_fields(fields: &ByteRecord) -> Option<(&[u8], &[u8])>
 #[derive(Drop)]
 pub struct Records {
     reader: Reader<Cursor<Vec<u8>>>,
-    /// The record that was read last. It has each in turn, so that its room is taken once.
+    /// The record that was read last. It holds each record in turn, so that its memory is used again.
     pub last: ByteRecord,
 }
 
@@ -66,6 +68,7 @@ impl Records {
     pub fn new(alloc: Global, bytes: Vec<u8>) -> Records
         ensures { HasRead bytes.items result [] }
     {
+        // With `flexible`, a record may have any number of fields. One that has not two gets the fault `Csv`.
         let reader = ReaderBuilder::new()
             .has_headers(false)
             .flexible(true)
@@ -87,14 +90,16 @@ impl Records {
         match self.reader.read_byte_record(&mut self.last) {
             Ok(is_found) => Ok(is_found),
             Err(error) => match error.into_kind() {
+                // A `Cursor` never fails, so `Io` only needs some answer.
                 ErrorKind::OutOfMemory | ErrorKind::Io(_) => Err(RecordRefusal::NoMemory),
+                // The other kinds are of UTF-8, of typed values and of numbers of fields, which `flexible` lets differ.
                 _ => unreachable!(),
             },
         }
     }
 }
 
-/// Takes the records of the bytes.
+/// Takes the records of the bytes, in their order, up to the first with a fault.
 pub fn read_records<I: Intake>(
     alloc: Global,
     intake: &I,
@@ -108,6 +113,7 @@ pub fn read_records<I: Intake>(
     ensures refused { IfErr result (NamesFirst (I.means intake.now) (records_of bytes.items)) }
 {
     let mut records = Records::new(alloc, bytes);
+    // The bound is never reached: by the lemma `read_few` there is at most one record more than bytes.
     'each: for index in 0..usize::MAX {
         match records.read() {
             Ok(true) => {}
@@ -122,7 +128,7 @@ pub fn read_records<I: Intake>(
     unreachable!()
 }
 
-/// Takes the records that a source gives.
+/// Takes the records that a source gives. `check_lines` and `read_labels` have its clauses, each for its own intake.
 pub fn read_input<I: Intake, S: Source>(
     alloc: Global,
     intake: &I,

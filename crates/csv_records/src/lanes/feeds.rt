@@ -1,4 +1,4 @@
-//! The rows of the records of lanes.
+//! Records of lanes: the lane that a record names, and its row.
 ghost use Rattle.std.specs.Prelude.{None, Some, Ok, Err, [], ◌≡◌, ◌<◌, ◌∷◌, ◌++◌, List, ℕ, false, IfNone, IfOk, IfSome};
 ghost use Rattle.csv.specs.Records.{fields_of};
 ghost use Rattle.csv_records.specs.lanes.Feeds.{is_lane, lanes_meaning};
@@ -25,7 +25,7 @@ pub fn lane_in(field: &[u8], lanes: u8) -> Option<u8>
     }
 }
 
-/// The lane of a record and its row.
+/// The lane of a record and its row. `read_fields` of command_runs reads the two fields of a line in the same order.
 pub fn read_record(
     pool: &mut RowPool,
     lanes: u8,
@@ -42,7 +42,8 @@ pub fn read_record(
     Ok((lane, runs))
 }
 
-/// Reads the next record, and has its row. None at the end.
+/// Reads the next record, and gives its lane and its row. None at the end. The clauses `more` and `end` are those of
+/// `Records::read`, with what `read_record` says of the fields.
 pub fn next_row(
     pool: &mut RowPool,
     lanes: u8,

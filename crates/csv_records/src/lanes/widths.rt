@@ -1,15 +1,16 @@
-//! Numbers and widths as fields spell them.
+//! Reads fields: a number of a few digits, and the widths of a row.
 ghost use Rattle.std.specs.Prelude.{None, Some, ◌==◌, ◌≡◌, ◌≤◌, ◌*◌, ◌-◌, true, false, length, ◌<◌, IfNone, IfOk, IfSome, List, OnOk, ℕ};
 ghost use Rattle.std.specs.List.{count_by};
 ghost use Rattle.std.specs.Char.{is_ascii_digit};
-ghost use Rattle.csv_records.specs.inner.Widths.{BeginsWithDigits, IsFirstWidth, capped, has_wide};
+ghost use Rattle.csv_records.specs.inner.FrontWidths.{BeginsWithDigits, IsFirstWidth, capped, has_wide};
 ghost use Rattle.csv_records.specs.lanes.Widths.{number_in, are_widths, field_fault, widths_in, words_of};
 ghost use Rattle.csv_records.specs.declared.input.fault.RecordFault.{RecordFault};
 
 use crate::input::fault::{RecordFault, RecordRefusal};
 use scan_core::{RowPool, RunFault, Runs};
 
-/// The number that a text of one to `most` digits shows.
+/// The number that a text of one to `most` digits shows. `most` is at most 5, since the proof bounds the number by
+/// `front_small`, the lemma for widths. The loop of `width_of_any_length` reads digits in the same way.
 pub fn number_in(text: &[u8], most: usize) -> Option<u32>
     requires { most ≤ 5 }
     ensures { result ≡ number_in most text.now }
@@ -27,7 +28,8 @@ pub fn number_in(text: &[u8], most: usize) -> Option<u32>
     Some(number)
 }
 
-/// The width that begins a text, as `first_width` gives it, found byte by byte.
+/// The width that begins a text, found byte by byte, with the clauses of `first_width`. It reads digits as `number_in`
+/// does.
 fn width_of_any_length(text: &[u8]) -> Option<(u32, &[u8])>
     ensures some { IfSome result (λ width. IsFirstWidth text.now width.0 width.1.now) }
     ensures small { IfSome result (λ width. width.0 < 100000) }
@@ -49,15 +51,15 @@ fn width_of_any_length(text: &[u8]) -> Option<(u32, &[u8])>
     Some((width, &[]))
 }
 
-/// The width that begins a text, up to its first space or its end, and the text after this space:
-/// none if the text has no space.
+/// The width that begins a text, up to its first space or its end, and the text after this space, which is empty if
+/// there is no space.
 fn first_width(text: &[u8]) -> Option<(u32, &[u8])>
     ensures some { IfSome result (λ width. IsFirstWidth text.now width.0 width.1.now) }
     ensures small { IfSome result (λ width. width.0 < 100000) }
     ensures none { IfNone result (are_widths (words_of text.now) ≡ false) }
 {
     match text {
-        // Most widths have one digit or two.
+        // Most widths have one digit or two. `width_of_any_length` would find these too, but slower.
         [digit, space, after @ ..] if *space == b' ' && digit.is_ascii_digit() => {
             Some((u32::from(*digit - b'0'), after))
         }
@@ -98,7 +100,7 @@ fn count_words(field: &[u8]) -> usize
 /// A zero and a space, as the bytes of a number: the low one first.
 const ZERO_AND_SPACE: u16 = 0x2030;
 
-/// The width that a digit before a space shows, and above 9 if it is no digit or no space.
+/// The width that a digit before a space shows, and above 9 if it is no digit or no space. One subtraction tests both.
 fn width_of_digit(digit: u8, space: u8) -> u16
     ensures shown { result ≤ 9 → (is_ascii_digit digit ≡ true) × (space ≡ 32) × (result ≡ digit - 48) }
     ensures each { is_ascii_digit digit ≡ true → space ≡ 32 → result ≡ digit - 48 }
@@ -106,8 +108,8 @@ fn width_of_digit(digit: u8, space: u8) -> u16
     u16::from_le_bytes([digit, space]).wrapping_sub(ZERO_AND_SPACE)
 }
 
-/// The first widths of a text, where each is one digit before a space. All are looked at, since a loop
-/// without an early end reads many at once.
+/// The first `N` widths of a text, if each is one digit before a space. The loop has no early end, so that the
+/// processor looks at many at once.
 fn digits<const N: usize>(text: &[u8]) -> Option<[u16; N]>
     ensures begins { IfSome result (BeginsWithDigits text.now) }
     ensures few { IfSome result (λ widths. (length widths ≡ N) × (2 * N ≤ length text.now)) }
@@ -126,8 +128,8 @@ fn digits<const N: usize>(text: &[u8]) -> Option<[u16; N]>
     each.then_some(widths)
 }
 
-/// The widths that a field shows, each above 65,535 as 65,535, in a list with room for all of them, and whether there
-/// is one such.
+/// The widths that a field shows, each above 65,535 as 65,535 to fit its `u16`, and whether there is one above. The
+/// clause `refused` is that of `read_runs`.
 fn read_widths(pool: &mut RowPool, field: &[u8]) -> Result<(Vec<u16>, bool), RecordRefusal>
     ensures words { OnOk result (are_widths (words_of field.now) ≡ true) }
     ensures widths { IfOk result (λ read. read.0.items ≡ capped (widths_in field.now)) }
@@ -141,6 +143,8 @@ fn read_widths(pool: &mut RowPool, field: &[u8]) -> Result<(Vec<u16>, bool), Rec
     let mut rest = field;
     let mut is_wide = false;
     'words: while widths.len() < count {
+        // Eight or two widths of one digit are read at once, each with its space. Eight `u16` fill a vector of
+        // 128 bits.
         rest = if let Some(eight) = digits::<8>(rest) {
             widths.extend_from_slice(&eight)?;
             &rest[16..]
@@ -169,6 +173,7 @@ pub fn read_runs(pool: &mut RowPool, field: &[u8]) -> Result<Runs, RecordRefusal
     let (widths, is_wide) = read_widths(pool, field)?;
     match Runs::from_widths(pool, widths) {
         Ok(runs) => {
+            // `BadRuns` comes before `TooWide`, so a wide width is reported only here.
             if is_wide {
                 Err(RecordRefusal::Record(RecordFault::TooWide))
             } else {

@@ -1,4 +1,4 @@
-//! The lines of labels.
+//! The lines of labels, which `print` writes instead of images if it is asked for text.
 ghost use Rattle.std.specs.Prelude.{◌≡◌, ◌++◌, ◌<◌, IfOk, OnOk, string_bytes};
 ghost use Rattle.csv_records.specs.print.Labels.{label_hri, label_line, label_lines};
 
@@ -8,7 +8,7 @@ use sheet_core::{Content, Label};
 use std::alloc::{AllocError, Global};
 use std::fmt::Write;
 
-/// The human-readable line of a label.
+/// The human-readable line of a label, with the capacity of `Elements::hri`.
 fn label_hri(label: &Label, year: Year) -> ArrayString<288>
     ensures { result.bytes ≡ label_hri label.now }
 {

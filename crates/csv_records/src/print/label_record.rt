@@ -13,7 +13,7 @@ use element_core::Year;
 use message_core::read_spelled;
 use sheet_core::{Label, LabelKind};
 
-/// The GTIN of its digits.
+/// The GTIN whose digits a field has. A fault of the digits becomes one of the record.
 fn gtin_in(field: &[u8]) -> Result<Gtin, RecordFault>
     ensures ok { IfOk result (λ gtin. gtin ≡ padded (digits_of field.now)) }
     ensures taken { OnOk result (gtin_fault field.now ≡ None) }

@@ -1,4 +1,4 @@
-//! Records of a kind and a text in, a label for each out.
+//! The records of `print`, and their labels.
 ghost use Rattle.std.specs.Prelude.{◌≡◌, ◌↔◌, true, false, IfErr, IfOk, IsErrOf};
 ghost use Rattle.csv_records.specs.input.Records.{Refuses, Takes};
 ghost use Rattle.csv_records.specs.print.Labels.{print_meaning};
@@ -36,10 +36,10 @@ impl Intake for LabelRecords {
     }
 }
 
-/// The labels that a source gives, in their order.
+/// The labels that a source gives, in their order. The clauses are those of `read_input`.
 ///
 /// The source gives CSV records of two fields: a kind, `ean13`, `upca`, `ean8`, `upce` or `itf14` with a GTIN,
-/// or `gs1128` with an element string.
+/// or `gs1128` with an element string. tables/kinds writes the kinds with a GTIN.
 pub fn read_labels<S: Source>(
     alloc: Global,
     year: Year,

@@ -15,7 +15,7 @@ pub record GivenInOrder (d : ReorderBuffer) (given : List (List Plain)) : Type 0
   pub counted : (l : ℕ) → length (slice_index_or given l []) ≡ next_of d l
   pub taken : (l k : ℕ) → once (was_taken d l k) ≡ once (nat_lt k (next_of d l)) + count_by (is_ticket_of l k) d.waiting
 
--- of what was collected, what is not set aside was given, waits, or is in hand, once; and what is in hand will be taken in
+-- of what was collected, what is not set aside was given, waits, or is in hand, once (`KeepsAll` says this to callers); and what is in hand will be taken in
 pub record Accounted (d : ReorderBuffer) (collected hand : List Plain) (given : List (List Plain)) : Type 0 where
   pub giving : GivenInOrder d given
   pub none_lost : (h : Plain → ℕ) → sum_by h (sifted (lanes_of d) collected) ≡ (sum_by h d.waiting + sum_by h hand) + sum_all h given

@@ -24,18 +24,18 @@ pub record CameBySeats {T : Type 0} (Came : History T) (h : Hub) (seats : List L
   pub own : IfSome w (IsWorkerOf h)
   pub came : Came start now (given_to seats held) (polled_by_each seats)
 
--- so has the traffic of this thread, by its seats
+-- `CameBySeats` of this thread: its seats, its row in hand, and its traffic
 abbrev pub IsServing : {T : Type 0} → History T → CallingThread T → Type 0
 IsServing came s = CameBySeats came s.hub.now s.lanes.items s.deliverer s.own s.held s.start.value s.traffic.value
 
--- it serves the same traffic by the same hub, with as many seats
+-- it serves the same traffic by the same hub, with as many seats: `KeepsSeats` too, field by field
 pub record GoesOn {T : Type 0} (Came : History T) (s t : CallingThread T) : Type 0 where
   pub hub : t.hub.now ≡ s.hub.now
   pub start : t.start.value ≡ s.start.value
   pub seats : length (option_to_list t.own) ≡ length (option_to_list s.own)
   pub serves : IsServing Came t
 
--- it has the seats of its hub still, and serves what it served
+-- it has the seats of its hub still, and serves what it served: `GoesOn` without what the traffic has given and was brought
 pub record KeepsSeats {T : Type 0} (s t : CallingThread T) : Type 0 where
   pub hub : t.hub.now ≡ s.hub.now
   pub start : t.start.value ≡ s.start.value
@@ -66,7 +66,7 @@ TakesStep came leaves s (Err fault) t = HasLost came leaves s t
 abbrev pub HasAllBack : {T : Type 0} → CallingThread T → Type 0
 HasAllBack s = HavePolledAll s.lanes.items × (s.held ≡ None)
 
--- and its traffic gives nothing more
+-- `HasAllBack`, and the thread's traffic gives nothing more
 abbrev pub IsAtEnd : {T : Type 0} → (T → Bool) → CallingThread T → Type 0
 IsAtEnd has_ended s = (has_ended s.traffic.value ≡ true) × HasAllBack s
 
@@ -85,13 +85,13 @@ pub record AreWorkers (h : Hub) (workers : Vec WorkerSeat Global) (apart : Optio
   pub count : vec_len workers + length (option_to_list apart) ≡ (shape_of h).workers
   pub room : vec_len workers + length (option_to_list apart) ≤ vec_capacity workers
 
--- all seats of a hub
+-- all seats of a hub, while its lanes are served (`AreAllSeats` of specs/Hubs says it where the hub is settled)
 pub record AreSeats (h : Hub) (s : Seats) (held : Option (ℕ × List ℕ)) : Type 0 where
   pub serves : AreOwnSeats h s.lanes.items held
   pub workers : AreWorkers h s.workers s.own
   pub deliverer : IsDelivererOf h s.deliverer
 
--- all seats came back, and the traffic was brought the first of what their lanes have polled, and is what its `bring` left then
+-- all lanes' seats came back, and by them the traffic is as `WasLost` says
 abbrev pub AreLeftLost : {T : Type 0} → History T → (T → T → Type 0) → Hub → T → T → List LaneSeat → Type 0
 AreLeftLost came leaves h start now lanes = (held : Option (ℕ × List ℕ)) × AreOwnSeats h lanes held × WasLost came leaves start now lanes held
 

@@ -4,7 +4,6 @@ use Rattle.hub_core.specs.declared.deliverer_seat.Collected.TheVariants as colle
 use Rattle.hub_core.specs.declared.collected_by_lane.CollectedByLane.{CollectedByLane}
 use Rattle.hub_core.specs.declared.collected_by_lane.CollectedByLane.TheVariants as by_lane
 
--- the answer of `collect` without the lane
 abbrev pub collected_as : CollectedByLane → Collected
 collected_as by_lane.Nothing = collecting.Nothing
 collected_as (by_lane.Taken _) = collecting.Taken

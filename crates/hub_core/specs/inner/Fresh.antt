@@ -1,4 +1,4 @@
--- Lanes, workers and rings as they are made for a new hub: for `parts.rt` and `traffic_serving.rt`.
+-- Lanes, workers and rings as they are made for a new hub, and which ring is whose.
 use Rattle.std.specs.Prelude.{◌≡◌, ◌<◌, ℕ, List, [], All, Option, Some, length, slice_get}
 use Rattle.std.specs.List.{range_with_len}
 use Rattle.crossbeam_queue.specs.Passes.{IsPassOf}
@@ -14,7 +14,7 @@ use Rattle.hub_core.specs.declared.rule.Trace.{Trace}
 use Rattle.hub_core.specs.declared.shape.Shape.{Shape}
 use Rattle.hub_core.specs.declared.worker_seat.WorkerSeat.{WorkerSeat}
 
--- the numbers of a hub that serves a traffic
+-- the numbers of a hub that serves a traffic, as `new_hub` has them: `CAPACITY`, and all tickets that there are
 abbrev pub shape_for : ℕ → ℕ → Shape
 shape_for lanes workers = record { lanes = lanes; workers = workers; capacity = 64; limit = 4294967295 }
 

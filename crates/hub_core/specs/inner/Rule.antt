@@ -10,7 +10,7 @@ use Rattle.hub_core.specs.Passes.{shares_of}
 use Rattle.hub_core.specs.Rule.{trace}
 use Rattle.hub_core.specs.declared.rule.Trace.{Trace}
 
--- what the pass with all shares learns of its queue: what was pushed is, each as often, what was popped and what the queue holds
+-- what the pass with all shares learns of its queue: `NoneLost` by its own pushes and pops, since it has joined all other passes
 abbrev pub KnowsQueue : Trace → List Plain → Type 0
 KnowsQueue v items = OneForOne v.pushed v.popped items
 
@@ -22,7 +22,7 @@ HasShares q n p = IsPassOf q p × (n < shares_of p)
 abbrev pub IsCut : ℕ → Trace → Trace → Type 0
 IsCut n v w = w ≡ trace (v.shares - n) v.pushed v.popped
 
--- it is a pass of this queue still, off which so many shares were cut
+-- `IsCut`, and it is a pass of this queue still
 abbrev pub CutsOff : {T Q A : Type 0} → Slotted (Option T) (Doing T Trace) Q A → ℕ → Pass T Trace → Pass T Trace → Type 0
 CutsOff q n old new = IsPassOf q new × IsCut n (view old) (view new)
 
@@ -30,14 +30,14 @@ CutsOff q n old new = IsPassOf q new × IsCut n (view old) (view new)
 abbrev pub JoinsPushes : {X : Type 0} → (X → List Plain) → List X → Trace → Trace → Type 0
 JoinsPushes pushed xs v w = w ≡ trace (v.shares + length xs) (v.pushed ++ flat_map pushed xs) v.popped
 
--- and it is a pass of this queue still
+-- `JoinsPushes`, and it is a pass of this queue still
 abbrev pub TakesPushes : {T X Q A : Type 0} → Slotted (Option T) (Doing T Trace) Q A → (X → List Plain) → List X → Pass T Trace → Pass T Trace → Type 0
 TakesPushes q pushed xs old new = IsPassOf q new × JoinsPushes pushed xs (view old) (view new)
 
--- the pass was joined with a pass of each of these, which had one share and had popped so much
+-- as `JoinsPushes`, of what each had popped
 abbrev pub JoinsPops : {X : Type 0} → (X → List Plain) → List X → Trace → Trace → Type 0
 JoinsPops popped xs v w = w ≡ trace (v.shares + length xs) v.pushed (v.popped ++ flat_map popped xs)
 
--- and it is a pass of this queue still
+-- `JoinsPops`, and it is a pass of this queue still
 abbrev pub TakesPops : {T X Q A : Type 0} → Slotted (Option T) (Doing T Trace) Q A → (X → List Plain) → List X → Pass T Trace → Pass T Trace → Type 0
 TakesPops q popped xs old new = IsPassOf q new × JoinsPops popped xs (view old) (view new)

@@ -21,7 +21,7 @@ given_to seats held = with_held held (map submitted_rows seats)
 abbrev pub polled_by_each : List LaneSeat → List (List Plain)
 polled_by_each seats = map polled seats
 
--- the seats of all lanes of this hub, by lane, and a row in hand for which its lane has a ticket
+-- the seats of all lanes of this hub, by lane, with the tickets of `shape_for`, and a row in hand for which its lane has one
 pub record AreOwnSeats (h : Hub) (seats : List LaneSeat) (held : Option (ℕ × List ℕ)) : Type 0 where
   pub lanes : All (IsLaneOf h) seats
   pub numbers : numbers_of seats ≡ range_with_len 0 (shape_of h).lanes

@@ -6,11 +6,12 @@ use Rattle.lane_core.specs.declared.next_slot.NextSlot.{NextSlot}
 use Rattle.lane_core.specs.declared.next_slot.NextSlot.TheVariants.{Missing, Here, Out}
 use Rattle.lane_core.specs.declared.job.Plain.{Plain}
 use Rattle.lane_core.specs.declared.ticket.Ticket.{Ticket}
+use Rattle.lane_core.specs.Issuing.{ticket_of}
 use Rattle.lane_core.specs.ReorderBuffer.{is_known}
 use Rattle.lane_core.specs.Tickets.{is_among, is_ticket_of}
 use Rattle.lane_core.specs.NextSlots.{waiting_of}
 
--- the delivery is the ticket's, a number of 32 bits
+-- the delivery has the ticket, whose number has 32 bits
 abbrev pub is_tied : Ticket × Plain → Bool
 is_tied e = is_ticket_of e.0.lane e.0.number e.1 && nat_lt e.0.number (2 ^ 32)
 
@@ -18,19 +19,19 @@ is_tied e = is_ticket_of e.0.lane e.0.number e.1 && nat_lt e.0.number (2 ^ 32)
 abbrev pub are_tied : List (Ticket × Plain) → Bool
 are_tied entries = list_all is_tied entries
 
--- whether the number waits
+-- whether the slot's number waits
 abbrev pub is_here : NextSlot → Bool
 is_here Missing = false
 is_here (Here x) = true
 is_here Out = false
 
--- whether the number was taken in
+-- whether the slot's number was taken in
 abbrev pub has_come : NextSlot → Bool
 has_come Missing = false
 has_come (Here x) = true
 has_come Out = true
 
--- what there is of lane l's next number
+-- what there is of lane l's next number; of a lane that is not there nothing
 abbrev pub slot_at : List NextSlot → ℕ → NextSlot
 slot_at slots l = slice_index_or slots l Missing
 
@@ -38,10 +39,10 @@ slot_at slots l = slice_index_or slots l Missing
 abbrev pub TakesSlot : List NextSlot → List NextSlot → Plain → Type 0
 TakesSlot old new x = (i : ℕ) × (i < length old) × (slot_at old i ≡ Here x) × (new ≡ slice_set old i Out)
 
--- a delivery that waits as lane l's next number k has that ticket
+-- a delivery that waits as lane l's next number k has that ticket, and k has 32 bits
 abbrev pub IsSlotOf : ℕ → ℕ → NextSlot → Type 0
 IsSlotOf l k Missing = ⊤
-IsSlotOf l k (Here x) = is_tied (record { lane = l; number = k }, x) ≡ true
+IsSlotOf l k (Here x) = is_tied (ticket_of l k, x) ≡ true
 IsSlotOf l k Out = ⊤
 
 -- deliveries of later numbers stand under their own tickets, all of them known
@@ -49,7 +50,7 @@ pub record AreIndexed (later : List (Ticket × Plain)) (known : List Ticket) : T
   pub tied : are_tied later ≡ true
   pub among : (l k : ℕ) → is_among l k (values_of later) ≡ true → is_known l k known ≡ true
 
--- each lane has a slot, of its next number, which is not known as a later one
+-- each lane has a slot, of its next number, which is not known as a later one; past its last ticket a lane's next number is 2 ^ 32, which no ticket has
 pub record AreKept (nexts : List ℕ) (slots : List NextSlot) (later : List (Ticket × Plain)) (known : List Ticket) : Type 0 where
   pub lanes : length slots ≡ length nexts
   pub own : (l : ℕ) → l < length nexts → IsSlotOf l (slice_index nexts l) (slot_at slots l)

@@ -1,4 +1,4 @@
--- What a deliverer of fewer lanes sets aside: for proofs on `Settling`.
+-- Deliveries of lanes that a deliverer does not have: for proofs on `Settling`.
 use Rattle.std.specs.Prelude.{ℕ, Bool, not, nat_lt}
 use Rattle.lane_core.specs.declared.job.Plain.{Plain}
 

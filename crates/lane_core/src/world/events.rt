@@ -1,4 +1,4 @@
-//! What each event does.
+//! `World::step`, and for each event a function, whose clauses are those of `step` for that event alone.
 ghost use Rattle.std.specs.Prelude.{◌≡◌, IfErr, IfOk, OnErr, false, length, true};
 ghost use Rattle.lane_core.specs.Contents.{IsEnabled, Steps, takes_memory};
 
@@ -45,7 +45,7 @@ impl World {
         }
     }
 
-    /// The row is queued under its lane's next ticket.
+    /// Does `Event::Submit`; false if the lane is not there, is closed or has issued all its tickets.
     fn submit(&mut self, lane: u8, row: Runs) -> Result<bool, Event>
         ensures steps { IfOk result (λ done. Steps self.old (Event.Submit lane row) done self.new) }
         ensures disabled { IfOk result (λ done. done ≡ false → self.new ≡ self.old) }
@@ -60,6 +60,7 @@ impl World {
         if self.lanes[at].closed {
             return Ok(false);
         }
+        // A `Ticketer` would end one ticket earlier: its limit is a `u32`, and the machine's is 2 ^ 32.
         let issued = self.lanes[at].issued;
         if issued > u64::from(u32::MAX) {
             return Ok(false);
@@ -82,7 +83,7 @@ impl World {
         }
     }
 
-    /// The worker takes the first job of the queue.
+    /// Does `Event::Take`; false if the worker is not there or has a job, or if none is queued.
     fn take(&mut self, worker: u32) -> bool
         ensures steps { Steps self.old (Event.Take worker) result self.new }
         ensures disabled { result ≡ false → self.new ≡ self.old }
@@ -102,7 +103,7 @@ impl World {
         true
     }
 
-    /// The worker queues the delivery of its job.
+    /// Does `Event::Post`; false if the worker is not there or has no job.
     fn post(&mut self, worker: u32) -> Result<bool, NoMemory>
         ensures steps { IfOk result (λ done. Steps self.old (Event.Post worker) done self.new) }
         ensures disabled { IfOk result (λ done. done ≡ false → self.new ≡ self.old) }
@@ -119,13 +120,14 @@ impl World {
         }
         self.results.reserve(1)?;
         let Some(job) = mem::replace(&mut self.workers[at], None) else {
+            // Never: it was there above.
             return Ok(false);
         };
         self.results.push_back_reserved(decode(job));
         Ok(true)
     }
 
-    /// The deliverer takes in the first delivery of the queue.
+    /// Does `Event::Collect`; false if no delivery is queued.
     fn collect(&mut self) -> Result<bool, NoMemory>
         ensures steps { IfOk result (λ done. Steps self.old Event.Collect done self.new) }
         ensures disabled { IfOk result (λ done. done ≡ false → self.new ≡ self.old) }
@@ -142,11 +144,12 @@ impl World {
                 self.results.push_front_reserved(delivery);
                 Err(NoMemory)
             }
+            // Never: by the invariant one of the lanes issued its ticket, once.
             Err(TakeFault::Stranger(_)) => unreachable!(),
         }
     }
 
-    /// The lane's outbox is given the lane's next number.
+    /// Does `Event::Hand`; false if the lane is not there or its next number does not wait.
     fn hand(&mut self, lane: u8) -> Result<bool, NoMemory>
         ensures steps { IfOk result (λ done. Steps self.old (Event.Hand lane) done self.new) }
         ensures disabled { IfOk result (λ done. done ≡ false → self.new ≡ self.old) }
@@ -164,13 +167,14 @@ impl World {
         let outbox = &mut self.lanes[at].handed;
         outbox.reserve(1)?;
         let Some(delivery) = self.deliverer.take_next(lane) else {
+            // Never: it waited above.
             return Ok(false);
         };
         outbox.push_reserved(delivery);
         Ok(true)
     }
 
-    /// The lane takes the first of its outbox.
+    /// Does `Event::Poll`; false if the lane is not there or its outbox is empty.
     fn poll(&mut self, lane: u8) -> bool
         ensures steps { Steps self.old (Event.Poll lane) result self.new }
         ensures disabled { result ≡ false → self.new ≡ self.old }
@@ -188,7 +192,7 @@ impl World {
         true
     }
 
-    /// The lane submits no more rows.
+    /// Does `Event::Close`; false if the lane is not there or is closed.
     fn close(&mut self, lane: u8) -> bool
         ensures steps { Steps self.old (Event.Close lane) result self.new }
         ensures disabled { result ≡ false → self.new ≡ self.old }

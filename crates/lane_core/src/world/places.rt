@@ -1,4 +1,4 @@
-//! Where a ticket is.
+//! `World::place`, which looks for a ticket in each place of a world.
 ghost use Rattle.std.specs.Prelude.{◌≡◌, ◌≤◌, IfNone, IfSome, option_to_list};
 ghost use Rattle.lane_core.specs.Contents.{HoldsOfShown};
 ghost use Rattle.lane_core.specs.Machine.{issued_of};
@@ -72,6 +72,7 @@ impl World {
         if is_result_of(&self.results, ticket) {
             return Some(Place::ResultQueue);
         }
+        // It is in one place, as the law `tickets_once` says, and no other is left.
         Some(Place::Waiting)
     }
 }

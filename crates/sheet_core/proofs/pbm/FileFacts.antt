@@ -34,14 +34,15 @@ had_none old sheets e = subst (Had old old 0) (sym e) (record { before = []; con
     none (Ok others, rest) = refl
     none (Err f, rest) = refl
 
+-- no bytes are no images
+pub no_images : (limit : ℕ) → images_by limit [] ≡ (Ok [], [])
+no_images zero = refl
+no_images (suc limit) = refl
+
 -- all that was read between images
 all_read : (old now : Option (List ℕ)) (k : ℕ) (sheets : List Bitmap) (h : Had old now k sheets) → images_of h.before ≡ (Ok sheets, [])
 all_read old now k sheets h =
-    ap images_of (sym (append-nil h.before)) ∙ h.same [] ∙ ap (before_others sheets) (nothing (4096 - k)) ∙ ap (λ xs. (Ok xs, [])) (append-nil sheets)
-  where
-    nothing : (limit : ℕ) → images_by limit [] ≡ (Ok [], [])
-    nothing zero = refl
-    nothing (suc limit) = refl
+    ap images_of (sym (append-nil h.before)) ∙ h.same [] ∙ ap (before_others sheets) (no_images (4096 - k)) ∙ ap (λ xs. (Ok xs, [])) (append-nil sheets)
 
 -- all that was read within an image
 within : (old now mid new : Option (List ℕ)) (k : ℕ) (sheets : List Bitmap) (first : ℕ) (bytes : List ℕ) (h : Had old now k sheets) → k < 4096
@@ -110,13 +111,9 @@ image_refused old now mid new k sheets first f h low c r = record {
         ≡ before_others sheets (with_others (images_by limit) x)
     all x e = within old now mid new k sheets first r.bytes h low ∙ ap (λ x. before_others sheets (with_others (images_by limit) x)) e
 
-    nothing : (limit : ℕ) → images_by limit [] ≡ (Ok [], [])
-    nothing zero = refl
-    nothing (suc limit) = refl
-
     open_too : IsOpen (image_of (first ∷ r.bytes)) → IsOpen (images_of (h.before ++ first ∷ r.bytes))
     open_too (inl e) = inl (all (Err Truncated, []) e)
-    open_too (inr p) = inr (sheets ++ p.0 ∷ [], all (Ok p.0, []) p.1 ∙ ap (λ x. before_others sheets (with_first p.0 x)) (nothing limit))
+    open_too (inr p) = inr (sheets ++ p.0 ∷ [], all (Ok p.0, []) p.1 ∙ ap (λ x. before_others sheets (with_first p.0 x)) (no_images limit))
 
     by : (f : PbmFault) → BytesTell (image_told first r.bytes) new (Err f) → BytesTell (images_of (h.before ++ first ∷ r.bytes)) new (Err f)
     by NotP4 e = all (Err NotP4, []) e

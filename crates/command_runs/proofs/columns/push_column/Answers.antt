@@ -5,7 +5,7 @@ use Rattle.std.proofs.lemmas.List.{append-nil}
 use Rattle.std.proofs.lemmas.Result.{IfOk-from_err}
 use Rattle.sheet_core.specs.Bitmaps.{cell_dots}
 use Rattle.command_runs.specs.Columns.{HaveDots}
-use Rattle.command_runs.proofs.RowsOfCells.{ended, fits, half_low, one_more_cell, place_low, size_of}
+use Rattle.command_runs.proofs.RowsOfCells.{cell_fits, half_low, has_grid_size, one_more_cell, place_low, rows_passed}
 use Rattle.command_runs.proofs.columns.push_column.Goals as goal
 
 pub loop-row-init : goal.loop-row-init
@@ -14,20 +14,20 @@ loop-row-init c = record { more = []; shown = tt; added = sym (append-nil c.args
 pub overflow_mul-cell : goal.overflow_mul-cell
 overflow_mul-cell c =
     let limits = c.grids_keep_limits.ensures in
-    (fits c.loop-row.row c.columns.result c.args.column c.args.grid.columns c.args.grid.rows _ c.loop-row-test.true c.rows-row-end.ensures c.requires.column
+    (cell_fits c.loop-row.row c.columns.result c.args.column c.args.grid.columns c.args.grid.rows _ c.loop-row-test.true c.rows-row-end.ensures c.requires.column
     c.columns.ensures limits.columns_most limits.rows_most).0
 
 pub overflow_add-cell : goal.overflow_add-cell
 overflow_add-cell c =
     let limits = c.grids_keep_limits.ensures in
-    (fits c.loop-row.row c.columns.result c.args.column c.args.grid.columns c.args.grid.rows _ c.loop-row-test.true c.rows-row-end.ensures c.requires.column
+    (cell_fits c.loop-row.row c.columns.result c.args.column c.args.grid.columns c.args.grid.rows _ c.loop-row-test.true c.rows-row-end.ensures c.requires.column
     c.columns.ensures limits.columns_most limits.rows_most).1
 
 pub cell_row-requires-clause-wide : goal.cell_row-requires-clause-wide
-cell_row-requires-clause-wide c = (size_of c.args.grid c.args.sheet.now c.requires.size).0
+cell_row-requires-clause-wide c = (has_grid_size c.args.grid c.args.sheet.now c.requires.size).0
 
 pub cell_row-requires-clause-high : goal.cell_row-requires-clause-high
-cell_row-requires-clause-high c = (size_of c.args.grid c.args.sheet.now c.requires.size).1
+cell_row-requires-clause-high c = (has_grid_size c.args.grid c.args.sheet.now c.requires.size).1
 
 pub cell_row-requires-clause-cell : goal.cell_row-requires-clause-cell
 cell_row-requires-clause-cell c =
@@ -44,7 +44,7 @@ pub returns : goal.returns
 returns c =
     let inv = c.loop-row.invariant in
     let g = c.args.grid in
-    let end : c.loop-row.row ≡ g.rows = ended c.loop-row.row c.rows-row-end.result g.rows c.loop-row.auto.row-end c.loop-row-test.false
+    let end : c.loop-row.row ≡ g.rows = rows_passed c.loop-row.row c.rows-row-end.result g.rows c.loop-row.auto.row-end c.loop-row-test.false
     c.rows-row-end.ensures in
     let shown = subst (λ n. HaveDots inv.more (map (λ cell. cell_dots g c.args.sheet.now cell (g.height / 2))
     (map (λ row. row * g.columns + c.args.column) (range_with_len 0 n)))) end inv.shown in

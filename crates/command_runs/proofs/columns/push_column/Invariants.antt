@@ -1,4 +1,4 @@
--- The rows of the cells so far were appended.
+-- The rows of the cells so far were appended: `shown` writes out `column_dots` for these.
 use Rattle.std.proofs.Common.{◌≡◌, ◌++◌, ◌+◌, ◌*◌, ◌/◌, List, map, ℕ}
 use Rattle.std.specs.List.{range_with_len}
 use Rattle.sheet_core.specs.Bitmaps.{cell_dots}

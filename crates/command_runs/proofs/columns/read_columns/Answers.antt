@@ -1,29 +1,30 @@
 -- The columns of all sheets, none if one has another size, or the fault of the images.
-use Rattle.std.proofs.Common.{[], Err, Ok, Option, ap, inr, map, refl, replicate, subst, sym, zero, suc, List, ℕ, ◌∙◌, ◌≡◌}
+use Rattle.std.proofs.Common.{[], Err, List, Ok, Option, ap, inr, map, refl, replicate, suc, subst, sym, zero, ℕ, ◌∙◌, ◌≡◌}
 use Rattle.std.proofs.KnownBytes.{Consumes-nil}
 use Rattle.std.proofs.lemmas.List.{length-map}
 use Rattle.sheet_core.specs.declared.fault.PbmFault.TheVariants as pbm
 use Rattle.sheet_core.specs.pbm.Images.{ReadsBytes, images_by, images_of}
 use Rattle.command_runs.specs.Columns.{ReadsColumns}
-use Rattle.command_runs.proofs.ColumnCounts.{feeds_long, feeds_short}
-use Rattle.command_runs.proofs.ColumnsGrow.{no_columns}
+use Rattle.command_runs.proofs.ColumnCounts.{columns_counted, feeds_short}
+use Rattle.command_runs.proofs.ColumnsGrow.{columns_of_none}
 use Rattle.command_runs.proofs.HowRunsEnd.{told_fault}
 use Rattle.command_runs.proofs.columns.read_columns.Goals as goal
 
--- no bytes are no images (sheet_core proves it for its own files too)
-nothing : (limit : ℕ) → images_by limit [] ≡ (Ok [], [])
-nothing zero = refl
-nothing (suc limit) = refl
+-- no bytes are no images: `no_images` of sheet_core's FileFacts, which that crate does not export
+no_images : (limit : ℕ) → images_by limit [] ≡ (Ok [], [])
+no_images zero = refl
+no_images (suc limit) = refl
 
+-- memory is refused before a byte is read; 4,096 is the most images of an input
 none_read : (left : Option (List ℕ)) → ReadsBytes images_of left left (Err pbm.NoMemory)
-none_read left = record { bytes = []; consumed = Consumes-nil left; tells = inr ([], nothing 4096) }
+none_read left = record { bytes = []; consumed = Consumes-nil left; tells = inr ([], no_images 4096) }
 
 pub returns-in_default-clause-read : goal.returns-in_default-clause-read
 returns-in_default-clause-read g c = none_read (g.S.Source.left c.args.source.now)
 
 pub read_sheets-requires : goal.read_sheets-requires
 read_sheets-requires g c =
-    (refl, λ whole. no_columns c.args.grid (map (λ feed. feed.items) c.in-Ok.feeds.items) (c.in-Ok.ensures ∙ ap (λ n. replicate n []) c.columns.ensures))
+    (refl, λ whole. columns_of_none c.args.grid (map (λ feed. feed.items) c.in-Ok.feeds.items) (c.in-Ok.ensures ∙ ap (λ n. replicate n []) c.columns.ensures))
 
 pub returns-in_err-read_sheets-clause-read : goal.returns-in_err-read_sheets-clause-read
 returns-in_err-read_sheets-clause-read g c =
@@ -47,7 +48,7 @@ returns-clause-read g c =
       (
         sym read.2.0 ∙ c.if-not-kept.false,
         are,
-        sym (length-map feeds (λ feed. feed.items)) ∙ feeds_long c.args.grid read.0 rows are,
+        sym (length-map feeds (λ feed. feed.items)) ∙ columns_counted c.args.grid read.0 rows are,
         feeds_short c.args.grid read.0 rows c.grids_keep_limits.ensures.rows_most few are,
       ),
       c.in_ok-read_sheets.ensures.end,

@@ -1,4 +1,4 @@
--- What the buffer took and then wrote is what the command wrote.
+-- If the run or the flush fails, the sink took a prefix of what the command wrote, and the refusal is one of the command.
 use Rattle.std.proofs.Common.{◌≡◌, Err, [], append-nil, refl, rules, sym}
 use Rattle.std.proofs.KnownBytes.{Keeps-refl}
 use Rattle.digits_core.specs.Bytes.{TookFront}

@@ -1,4 +1,4 @@
--- The law, as it is proved in `ColumnsByPlace`.
+-- `rows_by_place` of `ColumnsByPlace`, which needs no other law.
 use Rattle.command_runs.proofs.ColumnsByPlace.{rows_by_place as law}
 use Rattle.command_runs.proofs.laws.rows_by_place.Goals as goal
 

@@ -1,4 +1,4 @@
--- The law, as it is proved in `PrintedAnswers`, by the laws that are called.
+-- `printed_answer` of `PrintedAnswers`: a cell shows bars, which answer, or is blank, and its dots make a row.
 use Rattle.command_runs.proofs.PrintedAnswers.{printed_answer as law}
 use Rattle.command_runs.proofs.printed.printed_answer.Goals as goal
 

@@ -1,4 +1,4 @@
--- The law, as it is proved in `PrintedAnswers`, by the laws that are called.
+-- `scanned_once` of `PrintedAnswers`: dots determine a row, and a row has one answer.
 use Rattle.command_runs.proofs.PrintedAnswers.{scanned_once as law}
 use Rattle.command_runs.proofs.printed.scanned_once.Goals as goal
 

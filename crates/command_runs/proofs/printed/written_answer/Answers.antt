@@ -1,4 +1,4 @@
--- The law, as it is proved in `PrintedAnswers`, by the laws that are called.
+-- `written_answer` of `PrintedAnswers`: what is written is read again, and sheets have one list of answers.
 use Rattle.command_runs.proofs.PrintedAnswers.{written_answer as law}
 use Rattle.command_runs.proofs.printed.written_answer.Goals as goal
 

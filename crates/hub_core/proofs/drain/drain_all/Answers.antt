@@ -5,7 +5,7 @@ use Rattle.std.proofs.lemmas.List.{length-map}
 use Rattle.crossbeam_queue.specs.Passes.{view}
 use Rattle.hub_core.specs.Hubs.{shape_of}
 use Rattle.hub_core.specs.Lanes.{lane_of, numbers_of}
-use Rattle.hub_core.specs.inner.Workers.{jobs_in_hand}
+use Rattle.hub_core.specs.inner.Workers.{deliveries_in_hand}
 use Rattle.hub_core.specs.declared.lane_seat.LaneSeat.{LaneSeat}
 use Rattle.hub_core.specs.declared.rule.Trace.{Trace}
 use Rattle.hub_core.proofs.DrainsAddUp.{drained_then}
@@ -39,7 +39,7 @@ returns g c =
     let jobs = c.place_queue-2.ensures.drains in
     let results = c.place_queue.ensures.drains in
     let waiting = c.place_waiting.ensures.drains in
-    let hands = flat_map jobs_in_hand c.args.workers.items in
+    let hands = flat_map deliveries_in_hand c.args.workers.items in
     let held = option_to_list c.args.deliverer.held in
     let found = ((((rings.0 ++ waiting.0) ++ held) ++ hands) ++ results.0) ++ jobs.0 in
     let idle = c.args.deliverer.idle_at_jobs in (

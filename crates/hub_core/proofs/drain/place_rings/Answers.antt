@@ -14,7 +14,7 @@ use Rattle.hub_core.proofs.RingsAreDrained.{from_first, pair_now, ring_drained, 
 use Rattle.hub_core.proofs.RingsAfterStep.{ends_same, ends_set, sent_same}
 use Rattle.hub_core.proofs.RuleIsKept.{merges}
 use Rattle.hub_core.proofs.drain.place_rings.Goals as goal
-use Rattle.hub_core.proofs.ListFacts.{front_is_all}
+use Rattle.hub_core.proofs.ListsByPlace.{front_is_all}
 use Rattle.hub_core.proofs.PassesAreJoined.{pushes_more}
 use Rattle.hub_core.specs.inner.DrainedLists.{Drains}
 
@@ -53,7 +53,7 @@ loop-closed-preserved c =
     let ring = c.index_mut.result.now in
     let low : lane_of seat < length now = search rules in
     let rest = c.place_rest.ensures in
-    let left = rest.drains.2 ∙ sent_now rings now seat ring inv.sent c.index_mut.ensures.value low in
+    let whole_ring = rest.drains.2 ∙ sent_now rings now seat ring inv.sent c.index_mut.ensures.value low in
     let is : seat ≡ c.in-Some.closed = c.closed.view_is in
     record {
       can = search rules;
@@ -68,9 +68,9 @@ loop-closed-preserved c =
       sent = sent_same now (lane_of seat) ring c.place_rest.new.producer c.index_mut.ensures.value rest.same.1 ∙ inv.sent;
       drained = subst (λ (s : LaneSeat). Drains c.args.lists.now.items c.place_rest.new.lists.items (AreLeftInRings rings (c.loop-closed.yielded ++ s ∷ []))) is
           (ring_drained c.args.lists.now.items c.loop-closed.lists.items c.place_rest.new.lists.items rings c.loop-closed.yielded seat rest.drains.0
-          inv.drained rest.drains.1 left);
+          inv.drained rest.drains.1 whole_ring);
       received = subst (λ (s : LaneSeat). AreFromFirst rings (c.loop-closed.yielded ++ s ∷ [])) is
-          (from_first rings c.loop-closed.yielded seat rest.drains.0 inv.received left);
+          (from_first rings c.loop-closed.yielded seat rest.drains.0 inv.received whole_ring);
     }
 
 pub returns-clause-received : goal.returns-clause-received

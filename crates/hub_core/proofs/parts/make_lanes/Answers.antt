@@ -13,12 +13,15 @@ use Rattle.hub_core.specs.Passes.{shares_of}
 use Rattle.hub_core.specs.Rule.{trace}
 use Rattle.hub_core.specs.Rings.{PopEnd, PushEnd}
 use Rattle.hub_core.proofs.RuleIsKept.{forks}
-use Rattle.hub_core.proofs.SeatsAreNew.{cut_more, lanes_more, paired_more}
-use Rattle.hub_core.proofs.ListFacts.{count_more}
+use Rattle.hub_core.proofs.SeatsAreNew.{cut_more, seat_numbers_more, paired_more}
+use Rattle.hub_core.proofs.ListsByPlace.{count_more}
 use Rattle.hub_core.proofs.parts.make_lanes.Goals as goal
 
 pub another-pass-requires-clause-rule : goal.another-pass-requires-clause-rule
 another-pass-requires-clause-rule c = forks _ _ _ (let e = ap (λ (v : Trace). v.shares) c.loop-lane.invariant.left in omega arith)
+
+pub another-pass-requires-clause-queue : goal.another-pass-requires-clause-queue
+another-pass-requires-clause-queue c = c.loop-lane.invariant.of_jobs
 
 pub loop-lane-preserved : goal.loop-lane-preserved
 loop-lane-preserved c =
@@ -32,7 +35,7 @@ loop-lane-preserved c =
     record {
       of_jobs = search rules;
       left = q.rule.0 ∙ cut_more (view c.args.all_jobs.now) (view c.loop-lane.all_jobs) c.loop-lane.lane inv.left;
-      lanes = lanes_more c.loop-lane.seats.items c.push_reserved.new.self.items seat c.loop-lane.lane inv.lanes c.push_reserved.ensures.items made.0;
+      lanes = seat_numbers_more c.loop-lane.seats.items c.push_reserved.new.self.items seat c.loop-lane.lane inv.lanes c.push_reserved.ensures.items made.0;
       seats = subst (λ (l : List LaneSeat). All (λ (s : LaneSeat). IsPassOf c.args.jobs.now s.pass × HasDoneNothing s) l) (sym c.push_reserved.ensures.items)
           (All-push (λ (s : LaneSeat). IsPassOf c.args.jobs.now s.pass × HasDoneNothing s) c.loop-lane.seats.items seat inv.seats (search rules));
       count = count_more c.loop-lane.rings.items c.push_reserved-in-loop-lane.new.self.items c.in_ok-producer.producer c.loop-lane.lane
@@ -43,36 +46,6 @@ loop-lane-preserved c =
       paired = subst (λ (x : List PushEnd × List LaneSeat). All (IsPairedIn x.0) x.1)
           (λ i. (sym c.push_reserved-in-loop-lane.ensures.items i, sym c.push_reserved.ensures.items i)) p;
     }
-
-pub returns-in_err-seats : goal.returns-in_err-seats
-returns-in_err-seats c =
-    let r = c.from_residual.result in
-    let e = c.from_residual.ensures.0 in
-    record {
-      left = IfOk-from_err r _ e;
-      made = IfOk-from_err r _ e;
-    }
-
-pub returns-in_err-rings : goal.returns-in_err-rings
-returns-in_err-rings c =
-    let r = c.from_residual-in_err-rings.result in
-    let e = c.from_residual-in_err-rings.ensures.0 in
-    record {
-      left = IfOk-from_err r _ e;
-      made = IfOk-from_err r _ e;
-    }
-
-pub returns-in_err-producer : goal.returns-in_err-producer
-returns-in_err-producer c =
-    let r = c.from_residual-in_err-producer.result in
-    let e = c.from_residual-in_err-producer.ensures.0 in
-    record {
-      left = IfOk-from_err r _ e;
-      made = IfOk-from_err r _ e;
-    }
-
-pub another-pass-requires-clause-queue : goal.another-pass-requires-clause-queue
-another-pass-requires-clause-queue c = c.loop-lane.invariant.of_jobs
 
 pub returns : goal.returns
 returns c =
@@ -88,3 +61,14 @@ returns c =
         paired = inv.paired;
       };
     }
+
+-- ---- where memory is refused, nothing is claimed
+
+pub returns-in_err-seats : goal.returns-in_err-seats
+returns-in_err-seats c = let e = c.from_residual in record { left = IfOk-from_err e.result _ e.ensures.0; made = IfOk-from_err e.result _ e.ensures.0 }
+
+pub returns-in_err-rings : goal.returns-in_err-rings
+returns-in_err-rings c = let e = c.from_residual-in_err-rings in record { left = IfOk-from_err e.result _ e.ensures.0; made = IfOk-from_err e.result _ e.ensures.0 }
+
+pub returns-in_err-producer : goal.returns-in_err-producer
+returns-in_err-producer c = let e = c.from_residual-in_err-producer in record { left = IfOk-from_err e.result _ e.ensures.0; made = IfOk-from_err e.result _ e.ensures.0 }

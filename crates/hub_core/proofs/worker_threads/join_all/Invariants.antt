@@ -3,6 +3,7 @@ use Rattle.std.specs.Vec.Iter.{into_iter_len}
 use Rattle.hub_core.specs.Hubs.{IsWorkerOf}
 use Rattle.hub_core.proofs.worker_threads.join_all.Given as goal
 
+-- `room`: there is room for the seats that are left, as in `start_all` for its handles and in `close_all`
 abbrev pub invariant-loop-handle : goal.invariant-loop-handle
 invariant-loop-handle g l = record {
   can : (goal.iterator-loop-handle g).can_next l.handle-iterator;

@@ -17,6 +17,9 @@ use Rattle.hub_core.proofs.HubIsShared.{hub_sync}
 use Rattle.hub_core.proofs.worker_seat.WorkerSeat.TheSendSync as seat
 use Rattle.hub_core.proofs.worker_threads.start_all.Goals as goal
 
+-- The closure may go to a thread: `Ts` has the types of what it captures, `rt`, `hub`, `seat`, `gate` and `signals`.
+-- `named k` is the lifetime of a borrowed one, which stands at place k of `κs`. The compiler numbers them: the goal
+-- shows the numbers if it is left open. `depth 40`, since a search stops five lemmas deep.
 pub spawn_with-started-requires-send-F : goal.spawn_with-started-requires-send-F
 spawn_with-started-requires-send-F g c κs within =
     let Ts : List RattleType =

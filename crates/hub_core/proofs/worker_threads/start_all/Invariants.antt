@@ -2,6 +2,7 @@ use Rattle.std.proofs.Common.{◌≡◌, ◌+◌, ◌≤◌, vec_len, vec_capaci
 use Rattle.std.specs.Vec.Iter.{into_iter_len}
 use Rattle.hub_core.proofs.worker_threads.start_all.Given as goal
 
+-- `room`: there is room for the handles that are left, as in `join_all` for its seats
 abbrev pub invariant-loop-seat : goal.invariant-loop-seat
 invariant-loop-seat g l = record {
   can : (goal.iterator-loop-seat g).can_next l.seat-iterator;

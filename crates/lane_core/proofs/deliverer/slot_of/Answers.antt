@@ -10,17 +10,21 @@ use Rattle.lane_core.proofs.TicketLookup.{Finds, finds_at, cmp_tickets}
 use Rattle.lane_core.proofs.deliverer.slot_of.Goals as goal
 use Rattle.lane_core.proofs.deliverer.slot_of.Goals.{After-remove-2}
 
+-- the test of both look-ups: the ticket is lane `lane`'s number `next`
 abbrev test : After-remove-2 → Ticket → Bool
 test c = is_at (cmp_tickets (record { lane = c.args.lane; number = c.in-Ok.number }))
 
+-- the number has 32 bits
 small : (c : After-remove-2) → c.args.next < 2 ^ 32
 small c = search rules
 
+-- `test` finds this ticket alone
 finds : (c : After-remove-2) → Finds (test c) c.args.lane c.args.next
 finds c =
     let same : c.in-Ok.number ≡ c.args.next = search rules in
     finds_at (record { lane = c.args.lane; number = c.in-Ok.number }) c.args.lane c.args.next refl same
 
+-- the ticket was known, and is no more
 there : (c : After-remove-2) → list_any (test c) c.args.known.now.keys ≡ true
 there c = sym c.remove.ensures.test ∙ c.if-not-remove.false
 

@@ -11,9 +11,11 @@ use Rattle.lane_core.specs.Tickets.{is_among}
 use Rattle.lane_core.proofs.ResultFacts.{some_or}
 use Rattle.lane_core.proofs.laws.events_are_done.Goals as goal
 
+-- `some_or`, without a second option
 some_if : {X : Type 0} (b : Bool) (x : X) → is_some (cond b (Some x) None) ≡ b
 some_if b x = some_or b x None ∙ or-false b
 
+-- each event; 4294967296 is 2 ^ 32, the machine's limit of tickets
 submits : (s : State) (l : ℕ) (row : List ℕ) (o : Option LaneState)
     → is_some (submit s l row o) ≡ (is_some o && (not (of_lane false (λ v. v.closed) o) && nat_lt (length (of_lane [] (λ v. v.submitted) o)) 4294967296))
 submits s l row None = refl

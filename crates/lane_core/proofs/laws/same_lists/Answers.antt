@@ -1,5 +1,5 @@
+use Rattle.lane_core.proofs.ClaimFacts.{same_lists as law}
 use Rattle.lane_core.proofs.laws.same_lists.Goals as goal
-use Rattle.lane_core.proofs.TicketFacts.{same_lists as law}
 
 pub returns : goal.returns
 returns c = law

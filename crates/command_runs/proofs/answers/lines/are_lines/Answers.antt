@@ -2,23 +2,23 @@
 use Rattle.std.proofs.Common.{None, Some, arith, length-drop, subst}
 use Rattle.memchr.specs.Find.{IsFirstByte, is_byte2}
 use Rattle.command_runs.proofs.answers.PlainBytes.{no_more_quotes, no_more_returns, one_more_return, one_more_unquoted}
-use Rattle.command_runs.proofs.live.LineMeanings.{rest_all}
+use Rattle.std.proofs.lemmas.List.{take_rest}
 use Rattle.command_runs.proofs.answers.lines.are_lines.Goals as goal
 
 pub returns-in_default-clause-quotes : goal.returns-in_default-clause-quotes
 returns-in_default-clause-quotes c = λ _.
     no_more_quotes c.args.bytes.now c.each.from c.each.invariant.quotes
-    (subst (λ hay. IsFirstByte (is_byte2 13 34) hay None) (rest_all c.args.bytes.now c.each.from) c.in_default.ensures)
+    (subst (λ hay. IsFirstByte (is_byte2 13 34) hay None) (take_rest c.args.bytes.now c.each.from) c.in_default.ensures)
 
 pub returns-in_default-clause-returns : goal.returns-in_default-clause-returns
 returns-in_default-clause-returns c = λ _.
     no_more_returns c.args.bytes.now c.each.from c.each.invariant.end
-    (subst (λ hay. IsFirstByte (is_byte2 13 34) hay None) (rest_all c.args.bytes.now c.each.from) c.in_default.ensures)
+    (subst (λ hay. IsFirstByte (is_byte2 13 34) hay None) (take_rest c.args.bytes.now c.each.from) c.in_default.ensures)
 
 pub each-preserved : goal.each-preserved
 each-preserved c =
     let bytes = c.args.bytes.now in
-    let found = subst (λ hay. IsFirstByte (is_byte2 13 34) hay (Some c.in-Some.at)) (rest_all bytes c.each.from) c.in-Some.ensures in
+    let found = subst (λ hay. IsFirstByte (is_byte2 13 34) hay (Some c.in-Some.at)) (take_rest bytes c.each.from) c.in-Some.ensures in
     let high = found.0.high in
     let here = c.is_return.ensures c.if-not-is_return.false in
     record {

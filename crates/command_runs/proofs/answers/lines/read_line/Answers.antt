@@ -1,6 +1,6 @@
--- What two fields mean is what the line means, whether a second comma is there or not.
+-- A line without a comma is refused as `Csv`. The row of the first two fields is that of the line. A second comma makes each refusal of them `Csv`; without one it is that of the line.
 use Rattle.std.proofs.Common.{refl, take}
-use Rattle.command_runs.proofs.answers.WidthFields.{many_fields, row_of_line, two_fields}
+use Rattle.command_runs.proofs.answers.WidthFields.{many_fields, no_more_fields, row_of_line}
 use Rattle.command_runs.proofs.live.LineMeanings.{behind_comma, cut_at, only_field}
 use Rattle.command_runs.proofs.answers.lines.read_line.Goals as goal
 
@@ -23,5 +23,5 @@ pub returns-in-None : goal.returns-in-None
 returns-in-None c =
     let line = c.args.line.now in
     let k = c.in-Some.comma in
-    two_fields c.args.lanes line (take k line) (behind_comma line k) (cut_at line k c.in-Some.ensures).2 c.in-Err-Record.fault c.in-None.ensures
+    no_more_fields c.args.lanes line (take k line) (behind_comma line k) (cut_at line k c.in-Some.ensures).2 c.in-Err-Record.fault c.in-None.ensures
     (rw c.in-Err-Record.field-0-is at c.in-Err-Record.ensures)

@@ -7,6 +7,7 @@ use Rattle.scan_core.specs.Lines.{said}
 use Rattle.command_runs.specs.answers.Reports.{numbered_line}
 use Rattle.command_runs.proofs.answers.report.push_line.Goals as goal
 
+-- what `push` says of the bytes, in the terms of `OnOk`
 appended : {X E : Type 0} (r : Result X E) (old new bytes : List ℕ) → new ≡ (if is_ok r then old ++ bytes else old) → OnOk r (new ≡ old ++ bytes)
 appended (Ok x) old new bytes is = is
 appended (Err e) old new bytes is = tt

@@ -6,7 +6,7 @@ use Rattle.command_runs.specs.answers.Reports.{IsReport}
 use Rattle.command_runs.specs.inner.RowReaders.{GaveRows}
 use Rattle.csv_records.specs.lanes.Feeds.{feeds_of}
 use Rattle.command_runs.proofs.answers.LinesAsBrought.{no_lines}
-use Rattle.command_runs.proofs.answers.RowsAsRead.{no_rows, reported, rows_of_end, same_source}
+use Rattle.command_runs.proofs.answers.RowsAsRead.{no_records_no_rows, reported, rows_of_end, same_source}
 use Rattle.command_runs.proofs.answers.rows.serve_rows.Goals as goal
 
 pub serve_traffic-requires-clause-fresh : goal.serve_traffic-requires-clause-fresh
@@ -16,7 +16,7 @@ serve_traffic-requires-clause-fresh g c κs within =
     record {
       items = [];
       gave = subst (λ n. GaveRows g.S.Source.left g.S.Source.failed n c.args.rows.input.source c.args.rows []) of_lanes gave;
-      fed = no_rows c.args.lanes ∙ ap (λ n. feeds_of n []) of_lanes;
+      fed = no_records_no_rows c.args.lanes ∙ ap (λ n. feeds_of n []) of_lanes;
       lines = no_lines c.args.lanes (map string_bytes c.args.texts.items) texts;
     }
 

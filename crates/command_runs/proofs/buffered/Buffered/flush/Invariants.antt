@@ -1,4 +1,4 @@
--- What the sink took and what waits is what waited at first.
+-- What the sink took and what waits is the same together as at first, and no write has failed so far.
 use Rattle.std.proofs.Common.{◌≡◌, length}
 use Rattle.std.specs.Io.KnownBytes.{Keeps, append_known}
 use Rattle.command_runs.specs.inner.Buffers.{taken_and_waiting}

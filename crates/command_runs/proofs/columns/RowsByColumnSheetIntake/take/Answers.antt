@@ -1,7 +1,7 @@
 -- The rows of one more sheet stand in its columns, or a sheet has another size.
 use Rattle.std.proofs.Common.{map, sym, ◌∙◌}
 use Rattle.std.proofs.lemmas.List.{length-map}
-use Rattle.command_runs.proofs.ColumnCounts.{feeds_long}
+use Rattle.command_runs.proofs.ColumnCounts.{columns_counted}
 use Rattle.command_runs.proofs.ColumnsGrow.{kept_fit, kept_other, kept_unfit}
 use Rattle.command_runs.proofs.columns.RowsByColumnSheetIntake.take.Goals as goal
 
@@ -19,7 +19,7 @@ pub push_columns-requires-clause-count : goal.push_columns-requires-clause-count
 push_columns-requires-clause-count c =
     let feeds = c.args.kept.now.feeds.items in
     sym (length-map feeds (λ feed. feed.items))
-    ∙ feeds_long c.args.self.now.grid c.requires.0 (map (λ feed. feed.items) feeds) (c.requires.1.1 c.if-not-kept.false)
+    ∙ columns_counted c.args.self.now.grid c.requires.0 (map (λ feed. feed.items) feeds) (c.requires.1.1 c.if-not-kept.false)
 
 pub push_columns-requires-clause-size : goal.push_columns-requires-clause-size
 push_columns-requires-clause-size c = sym c.if-not-is_of_size.ensures

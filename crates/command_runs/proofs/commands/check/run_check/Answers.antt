@@ -1,4 +1,4 @@
--- The lines are written, or a write fails.
+-- If a write fails, the sink took a prefix of the lines: as in `lanes/run_lanes`, of other records.
 use Rattle.std.proofs.Common.{◌≡◌, ◌∙◌, rules, string_bytes}
 use Rattle.csv_records.specs.check.Checks.{check_meaning, check_report}
 use Rattle.command_runs.specs.commands.Checks.{check_command}

@@ -1,4 +1,4 @@
--- The report is written, or refused as its rows are, or a write fails.
+-- The rows are refused, or a write fails and the sink took a prefix of the report: the last as in `check/run_check`.
 use Rattle.std.proofs.Common.{◌≡◌, ◌∙◌, Err, ap, rules, string_bytes}
 use Rattle.command_runs.specs.answers.Reports.{IsReport}
 use Rattle.csv_records.specs.lanes.Feeds.{feeds_of, lanes_meaning}
@@ -6,13 +6,13 @@ use Rattle.command_runs.specs.commands.Lanes.{lanes_command}
 use Rattle.command_runs.specs.Faults.{of_rows}
 use Rattle.command_runs.specs.declared.answers.rows.RowsFault.TheVariants as rows_fault
 use Rattle.csv_records.specs.declared.input.fault.RecordsFault.TheVariants as records
-use Rattle.command_runs.proofs.HowRunsEnd.{not_cut, records_cut, refused_as, rows_no_write, rows_read, rows_unanswered, same_fault, told_fault}
-use Rattle.command_runs.proofs.FewEnough.{seats_counted}
+use Rattle.command_runs.proofs.HowRunsEnd.{not_cut, one_fault_told, records_cut, refused_as, rows_no_write, rows_only_read, rows_unanswered, told_fault}
+use Rattle.command_runs.proofs.FewEnough.{count_fits}
 use Rattle.command_runs.proofs.commands.lanes.run_lanes.Goals as goal
 
 pub answer_records-requires-clause-counts : goal.answer_records-requires-clause-counts
 answer_records-requires-clause-counts g c κs within =
-    let o = c.args.options in (seats_counted o.lanes o.some_lanes, seats_counted o.workers o.some_workers)
+    let o = c.args.options in (count_fits o.lanes o.some_lanes, count_fits o.workers o.some_workers)
 
 pub returns-in_err-lines : goal.returns-in_err-lines
 returns-in_err-lines g c =
@@ -29,7 +29,7 @@ returns-in_err-lines g c =
           (rows_unanswered o.lanes left rest fault c.in_err-lines.ensures.refused);
       unwritten = search rules;
       read = λ sound. let same = c.in_err-lines.ensures.fault sound in (
-        λ is. same.0 (ap (λ f. Err f) (rows_read fault (same_fault r (of_rows fault) _ told is))),
+        λ is. same.0 (ap (λ f. Err f) (rows_only_read fault (one_fault_told r (of_rows fault) _ told is))),
         λ failed. let is : fault ≡ rows_fault.Records records.ReadFault = cc (same.1 failed) in told_fault r (of_rows fault) told ∙ ap (λ f. Err (of_rows f)) is,
       );
       write = search rules;

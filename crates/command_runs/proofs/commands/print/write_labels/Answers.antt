@@ -1,6 +1,6 @@
--- Each way in which labels are printed or refused leaves the sink as promised.
-use Rattle.std.proofs.Common.{◌*◌, ◌≡◌, ◌∙◌, Err, List, Result, ap, refl, string_bytes, subst, sym, ℕ}
-use Rattle.std.specs.Prelude.{IsErrAnd}
+-- Each way in which labels are printed or refused leaves the sink as promised. Each goal has a context of its own, so each names its parts anew.
+use Rattle.std.proofs.Common.{◌*◌, ◌≡◌, ◌∙◌, Bool, Err, List, Option, Result, ap, refl, string_bytes, subst, sym, ℕ}
+use Rattle.std.specs.Prelude.{IsErr, IsErrAnd}
 use Rattle.std.specs.Io.KnownBytes.{Appends}
 use Rattle.std.specs.List.{AllByRecursion}
 use Rattle.std.proofs.lemmas.Bool.{false≢true}
@@ -22,8 +22,9 @@ use Rattle.sheet_core.specs.pbm.Images.{pbm_of}
 use Rattle.sheet_core.specs.declared.label.Label.{Label}
 use Rattle.command_runs.specs.Faults.{failed_write, no_memory, of_prints, of_sheets}
 use Rattle.command_runs.specs.commands.Prints.{IsPrinted, IsUnprinted}
+use Rattle.command_runs.specs.inner.Prints.{LeavesPrinted}
 use Rattle.csv_records.specs.print.Labels.{label_lines}
-use Rattle.command_runs.proofs.HowRunsEnd.{never_refused, not_cut, refused_as, same_fault, told_fault}
+use Rattle.command_runs.proofs.HowRunsEnd.{never_refused, not_cut, one_fault_told, refused_as, told_fault}
 use Rattle.command_runs.proofs.commands.print.write_labels.Goals as goal
 
 -- the lines, where text is asked for, of as many cells as are counted
@@ -33,12 +34,12 @@ lines_made g o labels text wide columns high rows a b c d asked fit is =
     let cells : wide * high ≡ cell_count g = rw (a, b, c, d) refl in
     rw asked (fit, is ∙ ap (λ k. label_lines k labels) cells)
 
--- else the images
+-- the images, where these are asked for
 images_printed : (g : Cells) (o : Output) (labels : List Label) (sheets : List Bitmap) → o ≡ output.Images → ArePrinted labels g sheets
     → IsPrinted g o labels (pbm_of sheets)
 images_printed g o labels sheets asked printed = rw asked (sheets, printed, refl)
 
--- faults of labels, as the command's
+-- faults of labels, as the command's: a case for each `SheetFault`, and for each `PrintFault`
 sheets_unprinted : (g : Cells) (labels : List Label) (f : SheetFault) → IsSheetFault g labels f → IsUnprinted g labels (of_sheets f)
 sheets_unprinted g labels (sheet.LabelKind i) why = why
 sheets_unprinted g labels (sheet.LabelWidth i) why = why
@@ -57,46 +58,40 @@ only_write (print.Sheet (sheet.LabelWidth i)) e = cc
 only_write (print.Sheet sheet.NoMemory) e = cc
 only_write print.WriteFault e = refl
 
--- a result that is such a fault, as the command's, and a failed write
+-- if a result is such a fault, as the command's, and a failed write, the fault is the writer's
 its_write : {A : Type 0} (r : Result A CommandFault) (f : PrintFault) → IsErrAnd r (λ e. e ≡ of_prints f) → r ≡ Err command.WriteFault → f ≡ print.WriteFault
-its_write r f told same = only_write f (same_fault r (of_prints f) command.WriteFault told same)
+its_write r f told same = only_write f (one_fault_told r (of_prints f) command.WriteFault told same)
 
+-- a fault of labels alone is no failed write
 sheets_no_write : (f : SheetFault) → of_sheets f ≡ command.WriteFault → ⊥
 sheets_no_write (sheet.LabelKind i) e = cc
 sheets_no_write (sheet.LabelWidth i) e = cc
 sheets_no_write sheet.NoMemory e = cc
 
+-- nothing was written: the fault of the result is no failed write, and the sink is as it was
+unwritten_labels : {W : Type 0} (grid : Cells) (o : Output) (labels : List Label) (taken : W → Option (List ℕ)) (failed : W → Bool) (sink : W)
+    (r : Result (Unit {0}) CommandFault) (fault : CommandFault) → IsErr r → IsErrAnd r (λ e. e ≡ fault) → (fault ≡ command.WriteFault → ⊥)
+    → IsUnprinted grid labels fault → LeavesPrinted grid o labels taken failed sink sink r
+unwritten_labels grid o labels taken failed sink r fault is told other why = record {
+  ok = IfOk-from_err r _ is;
+  cut = λ same. absurd (not_cut r fault other told same);
+  refused = refused_as r fault (IsUnprinted grid labels) told why;
+  unwritten = refused_as r fault _ told (λ other. refl);
+  write = λ sound. (λ same. absurd (not_cut r fault other told same), λ failed. absurd (false≢true (sym sound ∙ failed)));
+}
+
 pub returns-in_err-check_labels-in-Lines : goal.returns-in_err-check_labels-in-Lines
 returns-in_err-check_labels-in-Lines g c =
-    let r = c.from_residual.result in
     let f = c.in_err-check_labels-in-Lines.field-0.0 in
-    let told = c.from_residual.ensures.1 in
-    let why = sheets_unprinted c.args.grid c.args.labels.now f c.in_err-check_labels-in-Lines.ensures.err in
-    record {
-      ok = IfOk-from_err r _ c.from_residual.ensures.0;
-      cut = λ same. absurd (not_cut r (of_sheets f) (sheets_no_write f) told same);
-      refused = refused_as r (of_sheets f) (IsUnprinted c.args.grid c.args.labels.now) told why;
-      unwritten = refused_as r (of_sheets f) _ told (λ other. refl);
-      write = λ sound. (
-        λ same. absurd (not_cut r (of_sheets f) (sheets_no_write f) told same),
-        λ failed. absurd (false≢true (sym sound ∙ failed)),
-      );
-    }
+    unwritten_labels c.args.grid c.args.options.output c.args.labels.now g.W.Sink.taken g.W.Sink.failed c.args.sink.now c.from_residual.result (of_sheets f)
+    c.from_residual.ensures.0 c.from_residual.ensures.1 (sheets_no_write f)
+    (sheets_unprinted c.args.grid c.args.labels.now f c.in_err-check_labels-in-Lines.ensures.err)
 
 pub returns-in_err-text-in-Lines : goal.returns-in_err-text-in-Lines
 returns-in_err-text-in-Lines g c =
-    let r = c.from_residual-in_err-text-in-Lines.result in
-    let told = c.from_residual-in_err-text-in-Lines.ensures.1 in
-    record {
-      ok = IfOk-from_err r _ c.from_residual-in_err-text-in-Lines.ensures.0;
-      cut = λ same. absurd (not_cut r no_memory (λ is. cc) told same);
-      refused = refused_as r no_memory (IsUnprinted c.args.grid c.args.labels.now) told tt;
-      unwritten = refused_as r no_memory _ told (λ other. refl);
-      write = λ sound. (
-        λ same. absurd (not_cut r no_memory (λ is. cc) told same),
-        λ failed. absurd (false≢true (sym sound ∙ failed)),
-      );
-    }
+    unwritten_labels c.args.grid c.args.options.output c.args.labels.now g.W.Sink.taken g.W.Sink.failed c.args.sink.now
+    c.from_residual-in_err-text-in-Lines.result no_memory c.from_residual-in_err-text-in-Lines.ensures.0 c.from_residual-in_err-text-in-Lines.ensures.1
+    (λ is. cc) tt
 
 pub returns-in_err-write_all-in-Lines : goal.returns-in_err-write_all-in-Lines
 returns-in_err-write_all-in-Lines g c =

@@ -1,4 +1,4 @@
--- The report of the columns is written, or the images are refused, or a write fails.
+-- The report of the columns is written, or the grid, the images or their answers are refused, or a write fails. Each goal has a context of its own, so each names its parts anew.
 use Rattle.std.proofs.Common.{◌≡◌, ◌∙◌, Err, ap, false, inr, map, refl, string_bytes, subst, sym, true}
 use Rattle.std.proofs.lemmas.Bool.{false≢true}
 use Rattle.std.proofs.lemmas.Option.{MatchOption-at_none, MatchOption-at_some}
@@ -9,8 +9,8 @@ use Rattle.command_runs.specs.answers.Reports.{IsReport}
 use Rattle.command_runs.specs.Faults.{bad_grid, of_answers, of_images}
 use Rattle.command_runs.specs.commands.Scans.{scan_command}
 use Rattle.command_runs.specs.declared.fault.CommandFault.TheVariants as command
-use Rattle.command_runs.proofs.HowRunsEnd.{answers_no_read, answers_no_write, columns_of, cut_run, images_cut, images_no_write, images_read, images_refused, images_unanswered, never_refused}
-use Rattle.command_runs.proofs.HowRunsEnd.{refused_run, sized, written_run}
+use Rattle.command_runs.proofs.HowRunsEnd.{answers_no_read, answers_no_write, columns_of, cut_run, images_cut, images_no_write, images_only_read, images_refused, images_unanswered, never_refused}
+use Rattle.command_runs.proofs.HowRunsEnd.{refused_run, sized_as, written_run}
 use Rattle.command_runs.proofs.FewEnough.{counts_hold}
 use Rattle.command_runs.proofs.commands.scan.run_scan.Goals as goal
 
@@ -31,7 +31,7 @@ returns-in_err-feeds g c =
     c.from_residual-in_err-feeds.result (of_images fault) c.from_residual-in_err-feeds.ensures.1
     (images_refused o left rest fault (c.in_ok-grid.ensures.exact.0 refl) c.in_err-feeds.ensures.read) (images_no_write fault)
     (λ sound. (
-      λ same. (reads sound).0 (ap (λ f. Err f) (images_read fault same)),
+      λ same. (reads sound).0 (ap (λ f. Err f) (images_only_read fault same)),
       λ failed. let told : fault ≡ ReadFault = cc ((reads sound).1 failed) in ap of_images told,
     ))
 
@@ -41,7 +41,7 @@ returns-in_default g c =
     let read = c.in_ok-feeds.ensures.read in
     let sheets = read.0 in
     let other = MatchOption-at_none _ _ c.in_default.is read.2 in
-    let size = sized c.in_ok-grid.grid (cells_of o.grid) sheets sheets false c.in_ok-grid.ensures.ok refl (sym other) in
+    let size = sized_as c.in_ok-grid.grid (cells_of o.grid) sheets sheets false c.in_ok-grid.ensures.ok refl (sym other) in
     refused_run (scan_command o) g.S.Source.left g.S.Source.failed g.W.Sink.taken g.W.Sink.failed c.args.source.now c.read_columns.new.source c.args.sink.now
     (Err command.PbmSize) command.PbmSize refl
     (c.in_ok-grid.ensures.exact.0 refl, inr (read.1.bytes, (read.1.consumed, read.3), sheets, read.1.tells, size)) (λ same. cc)
@@ -66,7 +66,7 @@ returns-in_err-lines g c =
     let rest = g.S.Source.left c.read_columns.new.source in
     let here = MatchOption-at_some _ _ _ c.in-Some.is read.2 in
     let are = columns_of c.in_ok-grid.grid (cells_of o.grid) sheets sheets (map (λ feed. feed.items) feeds) c.in_ok-grid.ensures.ok refl here.1 in
-    let size = sized c.in_ok-grid.grid (cells_of o.grid) sheets sheets true c.in_ok-grid.ensures.ok refl (sym here.0) in
+    let size = sized_as c.in_ok-grid.grid (cells_of o.grid) sheets sheets true c.in_ok-grid.ensures.ok refl (sym here.0) in
     let why = images_unanswered (λ feed. feed.items) o sheets feeds left rest fault (c.in_ok-grid.ensures.exact.0 refl) read.1
     read.3 size are
     (λ same. c.in_err-lines.ensures.threads (ap Err same)) in
@@ -88,7 +88,7 @@ returns-in_err-write_all g c =
     let rest = g.S.Source.left c.read_columns.new.source in
     let here = MatchOption-at_some _ _ _ c.in-Some.is read.2 in
     let are = columns_of c.in_ok-grid.grid (cells_of o.grid) sheets sheets feeds c.in_ok-grid.ensures.ok refl here.1 in
-    let size = sized c.in_ok-grid.grid (cells_of o.grid) sheets sheets true c.in_ok-grid.ensures.ok refl (sym here.0) in
+    let size = sized_as c.in_ok-grid.grid (cells_of o.grid) sheets sheets true c.in_ok-grid.ensures.ok refl (sym here.0) in
     let grid = c.in_ok-grid.ensures.exact.0 refl in
     cut_run (scan_command o) g.S.Source.left g.S.Source.failed g.W.Sink.taken g.W.Sink.failed c.args.source.now c.read_columns.new.source c.args.sink.now
     c.write_all.new.sink c.from_residual-in_err-write_all.result c.from_residual-in_err-write_all.ensures.1
@@ -106,7 +106,7 @@ returns g c =
     let feeds = map (λ feed. feed.items) c.in-Some.feeds.items in
     let here = MatchOption-at_some _ _ _ c.in-Some.is read.2 in
     let are = columns_of c.in_ok-grid.grid (cells_of o.grid) sheets sheets feeds c.in_ok-grid.ensures.ok refl here.1 in
-    let size = sized c.in_ok-grid.grid (cells_of o.grid) sheets sheets true c.in_ok-grid.ensures.ok refl (sym here.0) in
+    let size = sized_as c.in_ok-grid.grid (cells_of o.grid) sheets sheets true c.in_ok-grid.ensures.ok refl (sym here.0) in
     let sent = c.as_bytes.ensures.value ∙ c.as_str.ensures.value in
     let report = subst (λ t. IsReport o.year feeds t) (sym sent) c.in_ok-lines.ensures.report in
     written_run (scan_command o) g.S.Source.left g.S.Source.failed g.W.Sink.taken g.W.Sink.failed c.args.source.now c.read_columns.new.source c.args.sink.now

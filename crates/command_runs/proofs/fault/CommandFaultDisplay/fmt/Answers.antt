@@ -9,7 +9,7 @@ use Rattle.command_runs.specs.declared.fault.CommandFault.{CommandFault}
 use Rattle.command_runs.specs.declared.fault.CommandFault.TheVariants as command
 use Rattle.command_runs.proofs.fault.CommandFaultDisplay.fmt.Goals as goal
 
--- what is no fault of a record is told without an index
+-- what is no fault of a record is written as its refusal is: a case for each `CommandFault`
 same_text : (fault : CommandFault) → ((i : ℕ) (f : RecordFault) → fault ≡ command.Record i f → ⊥) → command_refusal_text fault ≡ command_fault_text fault
 same_text command.ReadFault other = refl
 same_text command.WriteFault other = refl
@@ -25,7 +25,7 @@ same_text command.Truncated other = refl
 same_text command.PbmSize other = refl
 same_text command.NoThread other = refl
 
--- and one of a record after it
+-- and a fault of a record behind the record's index
 record_text : (i : ℕ) (f : RecordFault)
     → codes "record " ++ (decimal i ++ (codes ": " ++ record_fault_text f)) ≡ command_fault_text (command.Record i f)
 record_text i f = ap (λ t. codes "record " ++ t) (sym (append_assoc (decimal i) (codes ": ") (record_fault_text f)))

@@ -1,4 +1,4 @@
--- The line of a message is that of its notice.
+-- The line of a notice that is a message is that of the message.
 use Rattle.command_runs.proofs.live.pending.push_notice.Goals as goal
 
 pub returns-in-Message : goal.returns-in-Message

@@ -1,4 +1,4 @@
--- The line of a row is that of the delivery which waits under its number.
+-- The line of a row is that of the delivery which waits under its number; a notice has its own.
 use Rattle.command_runs.proofs.live.Words.{arith, length, on_ok_weaker, refl, slice_get_read}
 use Rattle.command_runs.proofs.live.ListsGrow.{placed_at}
 use Rattle.command_runs.proofs.live.pending.push_reply.Goals as goal

@@ -1,7 +1,7 @@
--- What stands before and behind the first comma says what the line means.
+-- A line means what its message or its two fields mean; without a comma, or with a second one and no message, it is refused.
 use Rattle.csv_records.specs.declared.input.fault.RecordFault.TheVariants as csv
-use Rattle.command_runs.proofs.live.Words.{Err, List, None, Refusal, Some, [], ap, arith, fields_meant, length, record_fault_text, refl, sym, take, unnumbered_line, ℕ, ◌<◌, ◌∙◌, ◌∷◌, ◌≡◌}
-use Rattle.command_runs.proofs.live.LineMeanings.{behind_comma, cut_at, only_field, some_field}
+use Rattle.command_runs.proofs.live.Words.{Err, List, None, Refusal, Some, [], ap, arith, fields_meant, is_comma, length, length-slice_split, record_fault_text, refl, sym, take, unnumbered_line, ℕ, ◌<◌, ◌∙◌, ◌∷◌, ◌≡◌}
+use Rattle.command_runs.proofs.live.LineMeanings.{behind_comma, cut_at, only_field}
 use Rattle.command_runs.proofs.live.record.read_record.Goals as goal
 
 -- more fields than two
@@ -24,7 +24,7 @@ returns-in-Some-memchr c =
     let j = c.in-Some-memchr.field-0 in
     let more = cut_at text j c.in-Some-memchr.ensures in
     rw (cut.1, sym c.is_message.ensures ∙ c.if-is_message.false, cut.2, more.2)
-    (ap Some (more_than_two c.args.lanes (take k line) (take j text) _ (some_field (behind_comma text j))))
+    (ap Some (more_than_two c.args.lanes (take k line) (take j text) _ (omega (arith, length-slice_split is_comma (behind_comma text j)))))
 
 pub returns-in-None-memchr : goal.returns-in-None-memchr
 returns-in-None-memchr c =

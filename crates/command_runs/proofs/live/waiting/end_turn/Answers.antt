@@ -21,13 +21,6 @@ loop-index-preserved c =
 pub returns : goal.returns
 returns c = record {
   count = c.loop-index.invariant.count;
-  each = λ k w at. (c.loop-index.invariant.each k w at).0 (omega (
-    arith,
-    slice_get_within c.loop-index.lanes.items k w at,
-    c.loop-index-test.false,
-    c.loop-index.invariant.count,
-    c.len-index-end.ensures,
-    c.args.lanes.now.ok.0,
-    c.loop-index.auto.index-end,
-  ));
+  each = λ k w at. (c.loop-index.invariant.each k w at).0
+      (omega (arith, slice_get_within c.loop-index.lanes.items k w at, c.loop-index-test.false, c.loop-index.invariant.count, c.len-index-end.ensures, c.args.lanes.now.ok.0, c.loop-index.auto.index-end));
 }

@@ -1,3 +1,4 @@
+-- The records so far mean these items, of which this was made.
 use Rattle.std.proofs.Common.{◌≡◌, List, length}
 use Rattle.csv_records.specs.input.Reading.{HasRead}
 use Rattle.csv_records.specs.input.Records.{AreItems, Fields}

@@ -1,4 +1,4 @@
--- If no record is left, those so far are all.
+-- If `Records::read` finds no more record, those so far are all.
 use Rattle.std.proofs.Common.{Ok, ap}
 use Rattle.csv_records.proofs.lanes.feeds.next_row.Goals as goal
 

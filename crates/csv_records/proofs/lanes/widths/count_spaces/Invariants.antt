@@ -1,3 +1,4 @@
+-- The bytes so far have as many spaces as are counted.
 use Rattle.std.proofs.Common.{◌==◌, ◌≡◌, take}
 use Rattle.std.specs.List.{count_by}
 use Rattle.csv_records.proofs.lanes.widths.count_spaces.Given as goal

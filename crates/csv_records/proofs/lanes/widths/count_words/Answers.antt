@@ -1,4 +1,4 @@
--- A part of at most 255 bytes has as many spaces as are counted in one byte.
+-- When no part is left, all spaces are counted, and there is one word more.
 use Rattle.std.proofs.Common.{◌+◌, ◌==◌, ◌≡◌, ◌∙◌, [], List, ℕ, ap, arith, sym}
 use Rattle.std.specs.List.{count_by}
 use Rattle.std.specs.Slice.Iter.{chunks_rest}

@@ -1,3 +1,4 @@
+-- The spaces that are counted and those of the parts that are left are all.
 use Rattle.std.proofs.Common.{◌+◌, ◌==◌, ◌≡◌}
 use Rattle.std.specs.List.{count_by}
 use Rattle.std.specs.Slice.Iter.{chunks_rest, chunks_size}

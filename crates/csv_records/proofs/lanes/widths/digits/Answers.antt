@@ -1,9 +1,9 @@
--- The widths so far are digits before a space, if each was.
+-- The widths so far are kept with whether each pair was a digit before a space, and are given if all were.
 use Rattle.std.proofs.Common.{◌*◌, ◌≡◌, ◌≤◌, ◌∙◌, List, arith, length, subst, sym, ℕ}
 use Rattle.std.specs.Option.{IfNone, IfSome}
 use Rattle.std.proofs.lemmas.List.{length-replicate, length-set}
-use Rattle.csv_records.specs.inner.Widths.{BeginsWithDigits}
-use Rattle.csv_records.proofs.lanes.DigitWidths.{found_more, given, none_more, not_given}
+use Rattle.csv_records.specs.inner.FrontWidths.{BeginsWithDigits}
+use Rattle.csv_records.proofs.lanes.DigitWidths.{found_more, given, no_digits_more, not_given}
 use Rattle.csv_records.proofs.lanes.widths.digits.Goals as goal
 
 pub widths-init : goal.widths-init
@@ -22,7 +22,7 @@ widths-preserved g c =
       places = length-set widths c.widths.i width ∙ inv.places;
       found = found_more c.args.text.now widths c.widths.i width c.widths.each (omega (arith, inv.places, c.widths-test.true)) inv.found
           c.width_of_digit-width.ensures.shown;
-      none = none_more c.args.text.now c.widths.i g.row.N width c.widths.each (omega (arith, c.widths-test.true)) inv.none c.width_of_digit-width.ensures.each;
+      none = no_digits_more c.args.text.now c.widths.i g.row.N width c.widths.each (omega (arith, c.widths-test.true)) inv.none c.width_of_digit-width.ensures.each;
     }
 
 pub returns-clause-begins : goal.returns-clause-begins

@@ -1,5 +1,6 @@
+-- If each pair so far was a digit before a space, these are their widths; else the text begins with no such widths.
 use Rattle.std.proofs.Common.{◌<◌, ◌≡◌, List, false, get_or, length, true, ℕ}
-use Rattle.csv_records.specs.inner.Widths.{BeginsWithDigits, IsDigitWord}
+use Rattle.csv_records.specs.inner.FrontWidths.{BeginsWithDigits, IsDigitWord}
 use Rattle.csv_records.proofs.lanes.widths.digits.Given as goal
 
 abbrev pub invariant-widths : goal.invariant-widths

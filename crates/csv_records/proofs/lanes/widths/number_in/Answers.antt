@@ -1,8 +1,8 @@
--- The digits so far show the number, which stays small.
+-- The digits so far show the number, which stays small. The steps are those of the proof of `width_of_any_length`.
 use Rattle.std.proofs.Common.{◌≡◌, ◌∙◌, arith, get_or, sym, true}
 use Rattle.std.specs.Char.{is_ascii_digit}
 use Rattle.csv_records.proofs.Decimals.{digit_range}
-use Rattle.csv_records.proofs.lanes.FirstWidth.{front_small, more_digits, more_value}
+use Rattle.csv_records.proofs.lanes.FirstWidth.{front_small, one_more_digit, one_more_value}
 use Rattle.csv_records.proofs.lanes.widths.number_in.Goals as goal
 
 pub overflow_mul-number : goal.overflow_mul-number
@@ -25,8 +25,8 @@ loop-digit-preserved c =
     let text = c.args.text.now in
     let i = c.loop-digit.digit-index in
     let digit : is_ascii_digit (get_or text i 0) ≡ true = sym c.is_ascii_digit.ensures.value ∙ c.if-not-is_ascii_digit.false in
-    let more = more_value text i (omega arith) digit in
+    let more = one_more_value text i (omega arith) digit in
     record {
-      digits = more_digits text i (omega arith) inv.digits digit;
+      digits = one_more_digit text i (omega arith) inv.digits digit;
       value = cc (more, inv.value, c.from.ensures);
     }

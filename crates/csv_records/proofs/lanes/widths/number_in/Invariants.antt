@@ -1,3 +1,4 @@
+-- The bytes so far are digits, and show the number.
 use Rattle.std.proofs.Common.{◌≡◌, take, true}
 use Rattle.std.specs.Char.{is_ascii_digit}
 use Rattle.std.specs.List.{list_all}

@@ -1,9 +1,9 @@
--- The widths of the words so far are read, eight, two or one at a time.
+-- The widths of the words so far are read, eight, two or one at a time, until a word is no width.
 use Rattle.std.proofs.Common.{◌-◌, ◌++◌, ◌<◌, ◌≡◌, ◌||◌, ◌∙◌, ◌∷◌, Some, [], ap, arith, drop, length, min, nat_lt, subst, sym, take}
 use Rattle.csv_records.specs.lanes.Widths.{words_of}
 use Rattle.csv_records.specs.declared.input.fault.RecordFault.TheVariants as fault
 use Rattle.csv_records.proofs.lanes.DigitWidths.{digits_read}
-use Rattle.csv_records.proofs.lanes.FieldWords.{AreRead, bad_rest, one_read}
+use Rattle.csv_records.proofs.lanes.FieldWords.{AreRead, bad_rest, one_word_read}
 use Rattle.csv_records.proofs.lanes.widths.read_widths.Goals as goal
 
 pub returns-in_default-first_width-clause-refused : goal.returns-in_default-first_width-clause-refused
@@ -14,6 +14,7 @@ returns-in_default-first_width-clause-refused c = λ f same.
     bad_rest c.args.field.now (length c.words.widths.items) c.words.rest.now (c.words.invariant.read.rest low) c.in_default-first_width.ensures.none
     ∙ ap (λ x. Some x) here
 
+-- eight at a time; two at a time below are proved in the same steps, with 2 for 8
 pub words-preserved-in_ok-extend_from_slice : goal.words-preserved-in_ok-extend_from_slice
 words-preserved-in_ok-extend_from_slice c =
     let words = words_of c.args.field.now in
@@ -27,6 +28,7 @@ words-preserved-in_ok-extend_from_slice c =
       room = omega (arith, c.in_ok-extend_from_slice.ensures.capacity, c.words.invariant.room);
     }
 
+-- two at a time, as eight above
 pub words-preserved-in_ok-extend_from_slice-2 : goal.words-preserved-in_ok-extend_from_slice-2
 words-preserved-in_ok-extend_from_slice-2 c =
     let words = words_of c.args.field.now in
@@ -40,6 +42,7 @@ words-preserved-in_ok-extend_from_slice-2 c =
       room = omega (arith, c.in_ok-extend_from_slice-2.ensures.capacity, c.words.invariant.room);
     }
 
+-- one at a time
 pub words-preserved : goal.words-preserved
 words-preserved c =
     let found = c.words.widths.items in
@@ -50,7 +53,7 @@ words-preserved c =
     record {
       read =
           subst (λ t. AreRead (words_of c.args.field.now) c.in-Some-first_width.after.now t (c.words.is_wide || nat_lt 65535 width)) (sym items)
-          (one_read (words_of c.args.field.now) width c.words.rest.now c.in-Some-first_width.after.now found c.words.is_wide low c.words.invariant.read
+          (one_word_read (words_of c.args.field.now) width c.words.rest.now c.in-Some-first_width.after.now found c.words.is_wide low c.words.invariant.read
           c.in-Some-first_width.ensures.some);
       room = omega (arith, c.push_reserved.ensures.capacity, c.words.invariant.room);
     }

@@ -1,3 +1,4 @@
+-- The widths of the words so far are read, and there is room for all; each turn reads a word at least.
 use Rattle.std.proofs.Common.{◌-◌, ◌≤◌, length}
 use Rattle.std.specs.Vec.{vec_capacity}
 use Rattle.csv_records.specs.lanes.Widths.{words_of}

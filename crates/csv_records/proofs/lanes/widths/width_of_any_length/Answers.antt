@@ -1,4 +1,4 @@
--- The digits so far are the front of the first word.
+-- The digits so far are the front of the first word. The loop reads digits as that of `number_in` does, whose proof has the same steps.
 use Rattle.std.proofs.Common.{◌<◌, ◌==◌, ◌≡◌, ◌∙◌, [], ap, arith, false, get_or, inl, inr, length, refl, sym, take, true}
 use Rattle.std.specs.Char.{is_ascii_digit}
 use Rattle.std.specs.List.{list_all}
@@ -6,7 +6,7 @@ use Rattle.std.specs.Str.Parse.{digits_value}
 use Rattle.std.proofs.lemmas.Bool.Decides.{nat_tests}
 use Rattle.std.proofs.lemmas.List.{take_all}
 use Rattle.csv_records.proofs.Decimals.{digit_range}
-use Rattle.csv_records.proofs.lanes.FirstWidth.{front_small, last_width, more_digits, more_value, next_width, no_width}
+use Rattle.csv_records.proofs.lanes.FirstWidth.{front_small, last_width, next_width, no_width, one_more_digit, one_more_value}
 use Rattle.csv_records.proofs.lanes.widths.width_of_any_length.Goals as goal
 use Rattle.csv_records.proofs.lanes.widths.width_of_any_length.Goals.{else-byte-eq32-via-then-byte-eq32+else-length-gt0, else-byte-eq32-via-else-byte-eq32, then-length-eq5-via-then-length-eq5, then-length-eq5-via-else-length-eq5+then-not-is_ascii_digit}
 
@@ -51,10 +51,10 @@ digits-preserved c =
     let inv = c.digits.invariant in
     let text = c.args.text.now in
     let digit : is_ascii_digit (get_or text c.digits.length 0) ≡ true = sym c.is_ascii_digit.ensures.value ∙ c.if-not-is_ascii_digit.false in
-    let more = more_value text c.digits.length (omega arith) digit in
+    let more = one_more_value text c.digits.length (omega arith) digit in
     record {
       few = omega (arith, inv.few, c.if-length-eq5.false);
-      digits = more_digits text c.digits.length (omega arith) inv.digits digit;
+      digits = one_more_digit text c.digits.length (omega arith) inv.digits digit;
       value = cc (more, inv.value, c.from.ensures);
     }
 

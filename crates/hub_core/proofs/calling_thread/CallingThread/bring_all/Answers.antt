@@ -3,7 +3,7 @@ use Rattle.std.proofs.Common.{◌<◌, ◌∙◌, ap, arith, length, refl, set, 
 use Rattle.hub_core.specs.Hubs.{shape_of}
 use Rattle.hub_core.specs.Traffics.{IsNextOf}
 use Rattle.hub_core.specs.inner.Traffics.{AreOwnSeats, given_to, polled_by_each}
-use Rattle.hub_core.proofs.SeatsServeTraffic.{came_brought, came_same, lane_at, next_of, first_polled_more, room_same, rows_same_given, seat_at, seats_counted, serves_with, step_serves}
+use Rattle.hub_core.proofs.SeatsServeTraffic.{came_brought, came_same, lane_is_place, polls_next_of, first_polled_more, room_same, rows_same_given, seat_at, seats_counted, serves_with, step_serves}
 use Rattle.hub_core.proofs.calling_thread.CallingThread.bring_all.Goals as goal
 use Rattle.hub_core.proofs.calling_thread.CallingThread.bring_all.Goals.{After-poll, In-Some}
 use Rattle.hub_core.proofs.ThreadGoesOn.{goes_since, lost_since, lost_step, lanes_kept}
@@ -29,6 +29,7 @@ low g c =
     let s = c.args.self.now in
     omega (arith, c.if-index-len.false, c.len.ensures, s.lanes.ok.0, lanes_kept g.T.Traffic.Came s c.loop-i.self c.requires c.loop-i.invariant)
 
+-- the seats are those of all lanes still, after a poll
 still_serves : (g : _) (c : After-poll g)
     → AreOwnSeats c.loop-i.self.hub.now (set c.loop-i.self.lanes.items c.from-index.result c.poll.new.self) c.loop-i.self.held
 still_serves g c =
@@ -46,7 +47,7 @@ is_next g c there =
     let s = c.loop-i.self in
     let polls = c.in-Some.ensures.polls in
     let t = c.poll.new.self in
-    next_of s.hub.now s.lanes.items s.held c.from-index.result c.index_mut.result.now t c.in-Some.delivery c.loop-i.invariant.serves.lanes
+    polls_next_of s.hub.now s.lanes.items s.held c.from-index.result c.index_mut.result.now t c.in-Some.delivery c.loop-i.invariant.serves.lanes
     there c.index_mut.ensures.value c.poll.ensures.submits polls.0 polls.1 polls.2
     (omega (arith, t.polled_issued, t.counted, t.polls_counted))
 
@@ -68,7 +69,7 @@ loop-i-preserved g c =
     let d = (goal.at.loop-i-preserved g c).After-poll in
     let at = c.index_mut.ensures.value in
     let polls = c.in-Some.ensures.polls in
-    let lane = lane_at s.hub.now seats s.held c.from-index.result c.index_mut.result.now is.lanes (low g d) at in
+    let lane = lane_is_place s.hub.now seats s.held c.from-index.result c.index_mut.result.now is.lanes (low g d) at in
     goes_since _ _ _ _ c.loop-i.invariant
     record {
       hub = refl;

@@ -1,10 +1,10 @@
--- The row in hand or the traffic's next goes into its lane's seat, or stays in hand if the queue is full.
+-- The row in hand or the traffic's next is submitted by its lane's seat, or stays in hand if the queue is full.
 use Rattle.std.proofs.Common.{◌≡◌, ◌<◌, ◌∙◌, IfSome, List, ℕ, None, Some, arith, length, map, option_to_list, refl, set, subst, sym}
 use Rattle.std.proofs.lemmas.List.{length-map}
 use Rattle.hub_core.specs.Lanes.{submitted_rows}
 use Rattle.hub_core.specs.Traffics.{HasRoom}
 use Rattle.hub_core.specs.inner.CallingThread.{CameBySeats}
-use Rattle.hub_core.specs.inner.Traffics.{polled_by_each, with_held}
+use Rattle.hub_core.specs.inner.Traffics.{given_to, polled_by_each}
 use Rattle.hub_core.proofs.SeatsServeTraffic.{came_full, came_more, if_none, next_came, room_same, seat_at, serves_with, step_serves}
 use Rattle.hub_core.proofs.calling_thread.CallingThread.submit_some.Goals as goal
 use Rattle.hub_core.proofs.calling_thread.CallingThread.submit_some.Goals.{Joined-take, in-None, in_default}
@@ -30,6 +30,7 @@ ready g c =
       | in_default w ↦ rw (w.self-is, w.next-is) (refl, refl, refl, c.take.ensures.after, rw c.take.ensures.value c.loop-i.invariant.serves)
     ]
 
+-- the row's lane has a seat
 low : (g : _) (c : Joined-take g) (lane index : ℕ) (row : List ℕ) → c.match-take.next ≡ Some (lane, row) → index ≡ lane
     → index < length c.match-take.self.lanes.items
 low g c lane index row is at =
@@ -37,6 +38,14 @@ low g c lane index row is at =
     let room : HasRoom lane (map submitted_rows s.lanes.items) =
     subst (λ o. IfSome o (λ r. HasRoom r.0 (map submitted_rows s.lanes.items))) is (ready g c).4.lanes.room in
     omega (arith, room.0, at, length-map s.lanes.items submitted_rows)
+
+-- the traffic has come by the rows that were submitted and by this one
+came_by : (g : _) (c : Joined-take g) (lane : ℕ) (row : List ℕ) → c.match-take.next ≡ Some (lane, row)
+    → g.T.Traffic.Came c.match-take.self.start.value c.match-take.self.traffic.value (given_to c.match-take.self.lanes.items (Some (lane, row)))
+    (polled_by_each c.match-take.self.lanes.items)
+came_by g c lane row is =
+    let s = c.match-take.self in
+    subst (λ o. g.T.Traffic.Came s.start.value s.traffic.value (given_to s.lanes.items o) (polled_by_each s.lanes.items)) is (ready g c).4.came
 
 pub returns-in_default-next : goal.returns-in_default-next
 returns-in_default-next g c =
@@ -61,7 +70,7 @@ loop-i-preserved g c =
     let s = c.match-take.self in
     let seats = s.lanes.items in
     let at = c.index_mut.ensures.value in
-    let came = subst (λ o. g.T.Traffic.Came s.start.value s.traffic.value (with_held o (map submitted_rows seats)) (polled_by_each seats)) c.in-Some.is r.4.came in
+    let came = came_by g d c.in-Some.lane c.in-Some.row c.in-Some.is in
     let less = low g d c.in-Some.lane c.from-index.result c.in-Some.row c.in-Some.is c.from-index.ensures in
     goes_since _ _ _ _ c.loop-i.invariant
     record {
@@ -87,7 +96,7 @@ returns-in-Err-Full g c =
     let at = c.index_mut.ensures.value in
     let full = rw c.in-Err-Full.field-0-is at c.in-Err-Full.ensures.submits in
     let held = Some (c.in-Some.lane, c.in-Err-Full.row) in
-    let came = subst (λ o. g.T.Traffic.Came s.start.value s.traffic.value (with_held o (map submitted_rows seats)) (polled_by_each seats)) c.in-Some.is r.4.came in
+    let came = came_by g d c.in-Some.lane c.in-Some.row c.in-Some.is in
     let room = subst (λ o. IfSome o (λ x. HasRoom x.0 (map submitted_rows seats))) c.in-Some.is r.4.lanes.room in
     goes_since _ _ _ _ c.loop-i.invariant
     record {

@@ -1,8 +1,7 @@
--- The lane's next number goes from the deliverer to the lane's ring, and the seat's account stays even.
-use Rattle.std.proofs.Common.{List, [], ap, arith, get_or, length, option_to_list, refl, rules, set, subst, sym, ◌++◌, ◌<◌, ◌∙◌, ◌∷◌, ◌≡◌}
+-- The lane's next number goes from the deliverer to the lane's ring, and what the seat has stays accounted for (`Accounted`).
+use Rattle.std.proofs.Common.{List, [], Some, ap, arith, get_or, length, option_to_list, refl, rules, set, subst, sym, ◌++◌, ◌<◌, ◌∙◌, ◌∷◌, ◌≡◌}
 use Rattle.std.proofs.lemmas.List.{length-set}
 use Rattle.std.specs.List.{slice_get}
-use Rattle.std.proofs.Common.{Some}
 use Rattle.rtrb.specs.Ring.{known_free, sent}
 use Rattle.lane_core.specs.declared.job.Plain.{Plain}
 use Rattle.hub_core.specs.Passes.{popped_by}
@@ -11,13 +10,12 @@ use Rattle.hub_core.specs.inner.Accounting.{Accounted}
 use Rattle.hub_core.proofs.RingsAfterStep.{ends_set, rings_counted, same_ring, sent_more, sent_same}
 use Rattle.hub_core.proofs.DeliveriesAreAccounted.{given_else, given_now, handed_one}
 use Rattle.hub_core.proofs.deliverer_seat.DelivererSeat.hand.Goals as goal
-use Rattle.hub_core.proofs.ListFacts.{got_set}
-use Rattle.hub_core.proofs.TruthFacts.{some_if_not_none}
+use Rattle.hub_core.proofs.ListsByPlace.{got_set}
+use Rattle.hub_core.proofs.TestsAndCounts.{some_if_not_none}
 
 pub invariant_of-self-then-is_full : goal.invariant_of-self-then-is_full
 invariant_of-self-then-is_full c =
     let s = c.args.self.now in
-    let less : c.from.result < length s.rings.items = omega (arith, c.from.ensures, c.requires, rings_counted s) in
     let same = sent_same s.rings.items c.from.result c.index_mut-ring.result.now c.is_full.new.self c.index_mut-ring.ensures.value
     c.is_full.ensures.looked.1 in
     record {
@@ -27,6 +25,7 @@ invariant_of-self-then-is_full c =
       accounted = subst (λ (gs : List (List Plain)). Accounted s.deliverer (popped_by s.collects) (option_to_list s.held) gs) (sym same) s.accounted;
     }
 
+-- `same` is as in `invariant_of-self-then-is_full`, and `less` as in `returns`
 pub returns-then-is_full : goal.returns-then-is_full
 returns-then-is_full c =
     let s = c.args.self.now in
@@ -73,6 +72,7 @@ invariant_of-self-in-Some c =
           (all_sent s.rings.items) _ c.requires c.in-Some.ensures.some put s.accounted;
     }
 
+-- `less`, `is` and `put` are as in `invariant_of-self-in-Some`: the lane was sent one more
 pub returns : goal.returns
 returns c =
     let s = c.args.self.now in

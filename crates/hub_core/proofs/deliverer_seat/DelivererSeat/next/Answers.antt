@@ -1,7 +1,7 @@
 use Rattle.std.proofs.Common.{◌∙◌, sym, option_to_list}
 use Rattle.hub_core.specs.Passes.{popped_by}
 use Rattle.hub_core.specs.Rings.{all_sent}
-use Rattle.hub_core.proofs.NextIsThere.{next_is, with_number}
+use Rattle.hub_core.proofs.NextIsThere.{there_is_next, with_number}
 use Rattle.hub_core.proofs.deliverer_seat.DelivererSeat.next.Goals as goal
 
 pub returns-clause-some : goal.returns-clause-some
@@ -12,6 +12,6 @@ returns-clause-some c =
 pub returns-clause-exactly : goal.returns-clause-exactly
 returns-clause-exactly c =
     let s = c.args.self.now in
-    let is = next_is s.deliverer (popped_by s.collects) (option_to_list s.held) (all_sent s.rings.items) c.args.lane _ s.accounted c.requires
+    let is = there_is_next s.deliverer (popped_by s.collects) (option_to_list s.held) (all_sent s.rings.items) c.args.lane _ s.accounted c.requires
     (s.accounted.giving.counted c.args.lane) in
     ((λ e. is ∙ c.next.ensures.exactly.0 e), (λ e. c.next.ensures.exactly.1 (sym is ∙ e)))

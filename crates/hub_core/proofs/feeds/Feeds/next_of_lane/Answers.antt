@@ -2,7 +2,7 @@
 use Rattle.std.proofs.Common.{Some, arith, map, set}
 use Rattle.std.specs.Vec.Iter.{into_iter_items}
 use Rattle.hub_core.specs.Feeds.{IsTaken, rests_of}
-use Rattle.hub_core.proofs.RowsAreGiven.{left_none, no_more, one_given, taken, untaken}
+use Rattle.hub_core.proofs.RowsAreGiven.{left_none, none_to_take, one_given, row_taken, row_untaken}
 use Rattle.hub_core.proofs.feeds.Feeds.next_of_lane.Goals as goal
 
 pub returns : goal.returns
@@ -10,7 +10,7 @@ returns c =
     let old = rests_of c.args.self.now in
     let new = map (λ r. into_iter_items r) (set c.args.self.now.rests.items c.from-index.result c.next.new.self) in
     let was : IsTaken old c.args.lane c.in_ok-row.row new =
-    taken (λ r. into_iter_items r) c.args.self.now.rests.items c.from-index.result c.args.lane c.index_mut.result.now c.next.new.self (Some c.in_ok-row.row)
+    row_taken (λ r. into_iter_items r) c.args.self.now.rests.items c.from-index.result c.args.lane c.index_mut.result.now c.next.new.self (Some c.in_ok-row.row)
     c.from-index.ensures (omega (arith, c.if-index-len.false, c.len.ensures, c.args.self.now.rests.ok.0)) c.index_mut.ensures.value
     (rw c.in_ok-row.was at c.next.ensures.items) in
     record {
@@ -29,9 +29,9 @@ returns-in_err-row c =
       row = record {
         some = tt;
         given = tt;
-        none = λ _. untaken (λ r. into_iter_items r) c.args.self.now.rests.items c.from-index.result rest c.next.new.self c.next.result
+        none = λ _. row_untaken (λ r. into_iter_items r) c.args.self.now.rests.items c.from-index.result rest c.next.new.self c.next.result
             c.index_mut.ensures.value c.next.ensures.items c.in_err-row.was;
       };
       left = λ _ low. left_none (λ r. into_iter_items r) c.args.self.now.rests.items c.from-index.result c.args.lane rest c.from-index.ensures low
-          c.index_mut.ensures.value (no_more c.next.result _ (into_iter_items rest) c.next.ensures.variant.1 rest.rest.ok.0 c.in_err-row.was);
+          c.index_mut.ensures.value (none_to_take c.next.result _ (into_iter_items rest) c.next.ensures.variant.1 rest.rest.ok.0 c.in_err-row.was);
     }

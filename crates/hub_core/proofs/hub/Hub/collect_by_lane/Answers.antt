@@ -3,13 +3,14 @@ use Rattle.std.proofs.Common.{ap, sym, ◌∙◌}
 use Rattle.crossbeam_queue.specs.Passes.{view}
 use Rattle.hub_core.specs.Rings.{all_sent}
 use Rattle.hub_core.proofs.RuleIsKept.{learns, takes}
-use Rattle.hub_core.proofs.DeliveriesAreAccounted.{Stands, stands_again, stands_popped, took, passed_over, held_back, accounted_at}
+use Rattle.hub_core.proofs.DeliveriesAreAccounted.{Stands, stands_again, stands_popped, accounted_taken, accounted_aside, accounted_held, accounted_at}
 use Rattle.hub_core.proofs.hub.Hub.collect_by_lane.Goals as goal
 use Rattle.hub_core.proofs.hub.Hub.collect_by_lane.Goals.{After-take_in, in-Some, in-None+in-Some-pop_as}
 
 pub pop_as-requires-clause-rule : goal.pop_as-requires-clause-rule
 pop_as-requires-clause-rule g c = (takes _ _ _ c.args.seat.now.shares.1, learns _ _ _)
 
+-- what the seat has with the delivery that it popped or had in hand
 stands_at : (g : _) (c : After-take_in g) → Stands (view c.match-take.seat.1.1.0) c.args.seat.now.deliverer c.match-take.delivery
     (all_sent c.args.seat.now.rings.items)
 stands_at g c =
@@ -29,7 +30,7 @@ invariant_of-seat-in-Ok g c =
       idle_at_jobs = s.idle_at_jobs;
       shares = (s.shares.0, stands.share);
       collects_only = stands.pops_only;
-      accounted = accounted_at _ _ _ _ _ c.take.ensures.after (took _ _ _ _ _ stands.pending c.in-Ok.ensures.taken);
+      accounted = accounted_at _ _ _ _ _ c.take.ensures.after (accounted_taken _ _ _ _ _ stands.pending c.in-Ok.ensures.taken);
     }
 
 pub invariant_of-seat-in-Err-NoMemory : goal.invariant_of-seat-in-Err-NoMemory
@@ -41,7 +42,7 @@ invariant_of-seat-in-Err-NoMemory g c =
       idle_at_jobs = s.idle_at_jobs;
       shares = (s.shares.0, stands.share);
       collects_only = stands.pops_only;
-      accounted = held_back _ _ _ _ _ _ stands.pending t.0 t.1 c.in-Err-NoMemory.ensures.unchanged;
+      accounted = accounted_held _ _ _ _ _ _ stands.pending t.0 t.1 c.in-Err-NoMemory.ensures.unchanged;
     }
 
 pub invariant_of-seat-in-Err-Stranger : goal.invariant_of-seat-in-Err-Stranger
@@ -53,5 +54,5 @@ invariant_of-seat-in-Err-Stranger g c =
       idle_at_jobs = s.idle_at_jobs;
       shares = (s.shares.0, stands.share);
       collects_only = stands.pops_only;
-      accounted = accounted_at _ _ _ _ _ c.take.ensures.after (passed_over _ _ _ _ _ stands.pending t.0 c.in-Err-Stranger.ensures.unchanged);
+      accounted = accounted_at _ _ _ _ _ c.take.ensures.after (accounted_aside _ _ _ _ _ stands.pending t.0 c.in-Err-Stranger.ensures.unchanged);
     }

@@ -4,11 +4,11 @@ use Rattle.hub_core.specs.inner.DrainedLists.{AreMade}
 use Rattle.hub_core.specs.Serving.{items_of}
 use Rattle.hub_core.specs.Hubs.{IsLaneOf, shape_of}
 use Rattle.hub_core.specs.declared.lane_seat.LaneSeat.{LaneSeat}
-use Rattle.hub_core.proofs.SeatsAsLanes.{GivesRows, settled}
+use Rattle.hub_core.proofs.SeatsAsLanes.{GivesRows, lanes_settled}
 use Rattle.hub_core.proofs.ListsHaveUnpolled.{owed}
 use Rattle.hub_core.proofs.PartsAreAState.{parts_are}
 use Rattle.hub_core.proofs.hub.Hub.settle.Goals as goal
-use Rattle.hub_core.proofs.ListFacts.{all_at}
+use Rattle.hub_core.proofs.ListsByPlace.{all_at}
 
 pub drain_all-requires : goal.drain_all-requires
 drain_all-requires g c = c.requires
@@ -24,7 +24,7 @@ returns g c =
     c.requires.deliverer.lanes made p.4 c.sort_all.ensures in
     let rows : GivesRows h ls (items_of c.sort_all.new.lists.items) = λ i v e. lists i v e ∙ (all_at (IsLaneOf h) ls i v c.requires.lanes e).rows in
     record {
-      settled = settled h ls _ rows;
+      settled = lanes_settled h ls _ rows;
       count = c.sort_all.ensures.0 ∙ (p.4.counted ∙ made.counted);
       whole = are.1;
       unsettled = tt;

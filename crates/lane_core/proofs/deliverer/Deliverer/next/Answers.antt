@@ -9,6 +9,7 @@ use Rattle.lane_core.specs.inner.NextSlots.{IsSlotOf, is_here, slot_at}
 use Rattle.lane_core.proofs.SlotFacts.{contained, next_waits, own_parts}
 use Rattle.lane_core.proofs.deliverer.Deliverer.next.Goals as goal
 
+-- the slot that the code reads is the lane's, and the lane is there
 here : (c : goal.In-Here) → slot_at c.self.inside.slots.items c.args.lane ≡ Here c.in-Here.delivery
 here c = grind (arith, common_steps)
 
@@ -34,6 +35,7 @@ returns-in-Here-clause-exactly c =
     (low c) in
     rw (← c.self.view_is) ((λ e. waits ∙ ap is_here (here c)), (λ e. refl))
 
+-- a slot that has no delivery
 none_here : (h : NextSlot) → ((x : Plain) → h ≡ Here x → ⊥) → is_here h ≡ false
 none_here Missing none = refl
 none_here (Here x) none = absurd (none x refl)

@@ -31,6 +31,7 @@ took_some nexts hs gs es fs ks kept same (Some x) is =
     subst (λ (q : List NextSlot × List (Ticket × Plain)). GivesAny (buffer_by_slots nexts hs es ks) x (buffer_by_slots nexts q.0 q.1 ks))
     (λ i. (sym is.3 i, sym same i)) (took_slot nexts hs es ks is.0 x kept.lanes is.1 is.2)
 
+-- the slots are those that `take_first` left
 slots : (c : goal.After-self-1) → (with_items c.self.inside.slots c.take_first.new.slots).items ≡ c.take_first.new.slots
 slots c = with_items_is c.self.inside.slots c.take_first.new.slots
     (c.take_first.ensures.len ∙ (ap length c.as_mut_slice.ensures.value ∙ sym c.self.inside.slots.ok.0))
@@ -62,6 +63,7 @@ pub invariant_of-self : goal.invariant_of-self
 invariant_of-self c = kept_out c.self.inside.nexts.items c.self.inside.slots.items c.self.inside.later.entries c.pop_first.new.self.entries
     c.self.inside.known.keys c.in-Some.field-0-0 c.in-Some.delivery c.self.invariant c.in-Some.ensures.removal
 
+-- a lane's next number was taken out of turn, or none waited
 kept_some : (nexts : List ℕ) (hs gs : List NextSlot) (es : List (Ticket × Plain)) (ks : List Ticket) → AreKept nexts hs es ks → (o : Option Plain)
     → IfSome o (TakesSlot hs gs) → IfNone o ((waiting_at hs ≡ []) × (gs ≡ hs))
     → AreKept nexts gs es ks

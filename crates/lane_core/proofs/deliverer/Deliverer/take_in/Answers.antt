@@ -1,6 +1,6 @@
 -- A lane's next number goes into its slot, a later one into both maps, and out of them again if memory is refused.
-use Rattle.std.proofs.Common.{rules, ◌≡◌, ◌<◌, ◌^◌, ◌&&◌, Bool, not, nat_lt, true, false, length, get_or, slice_set, refl, sym, ap, ◌∙◌, arith}
-use Rattle.std.proofs.lemmas.Bool.{le-ltb, lt-ltb}
+use Rattle.std.proofs.Common.{rules, ◌≡◌, ◌<◌, ◌^◌, ◌&&◌, not, nat_lt, true, false, length, get_or, slice_set, refl, sym, ap, ◌∙◌, arith}
+use Rattle.std.proofs.lemmas.Bool.{and_left, and_right, le-ltb, lt-ltb, not_from_true}
 use Rattle.std.proofs.lemmas.List.{get_or_read}
 use Rattle.std.specs.BTreeMap.{is_at}
 use Rattle.std.specs.Set.{remove_key}
@@ -14,17 +14,11 @@ use Rattle.lane_core.proofs.TakingFacts.{head_kept, head_taken, keys_back, later
 use Rattle.lane_core.proofs.deliverer.Deliverer.take_in.Goals as goal
 use Rattle.lane_core.proofs.deliverer.Deliverer.take_in.Goals.{After-index, then-lane-len-via-then-lane-len, then-lane-len-via-else-lane-len+then-was_taken}
 
+-- the view has the delivery's lane
 pub was_taken-requires : goal.was_taken-requires
 was_taken-requires c =
     let view = ap (λ (d : ReorderBuffer). length d.nexts) c.self.view_is in
     omega arith
-
-low_off : (a b : Bool) → a ≡ false → (a && not b) ≡ false
-low_off a b e = ap (λ x. x && not b) e
-
-taken_off : (a b : Bool) → b ≡ true → (a && not b) ≡ false
-taken_off true b e = ap not e
-taken_off false b e = refl
 
 pub returns-then-lane-len-clause-refused : goal.returns-then-lane-len-clause-refused
 returns-then-lane-len-clause-refused c =
@@ -33,11 +27,11 @@ returns-then-lane-len-clause-refused c =
     let x = c.args.delivery in
     elim c.then-lane-len.branch [
       | then-lane-len-via-then-lane-len w ↦
-          (low_off (nat_lt x.lane (lanes_of d)) (was_taken d x.lane x.number) (le-ltb x.lane (lanes_of d) (omega arith)), refl)
+          (and_left (nat_lt x.lane (lanes_of d)) (not (was_taken d x.lane x.number)) (le-ltb x.lane (lanes_of d) (omega arith)), refl)
       | then-lane-len-via-else-lane-len+then-was_taken w ↦ (
-        taken_off (nat_lt x.lane (lanes_of d)) (was_taken d x.lane x.number)
+        and_right (nat_lt x.lane (lanes_of d)) (not (was_taken d x.lane x.number)) (not_from_true (was_taken d x.lane x.number)
             ((λ i. was_taken d (sym c.ticket-ticket.ensures.lane i) (sym c.ticket-ticket.ensures.number i))
-            ∙ (sym w.was_taken.ensures ∙ w.if-was_taken.true)),
+            ∙ (sym w.was_taken.ensures ∙ w.if-was_taken.true))),
         refl,
       )
     ]
@@ -51,6 +45,7 @@ index-requires c = omega arith
 pub index_mut-requires : goal.index_mut-requires
 index_mut-requires c = let n = c.self.invariant.lanes in omega arith
 
+-- the lane and the number that the code reads are the delivery's: it is one of the lanes, and has 32 bits
 lane_is : (c : After-index) → c.from-lane.result ≡ c.args.delivery.lane
 lane_is c = c.from-lane.ensures ∙ c.ticket-ticket.ensures.lane
 
@@ -60,10 +55,12 @@ low c = let lane = lane_is c in omega arith
 small : (c : After-index) → c.ticket-ticket.result.number < 2 ^ 32
 small c = search rules
 
+-- its number was not taken in
 fresh : (c : After-index) → was_taken (buffer_by_slots c.self.inside.nexts.items c.self.inside.slots.items c.self.inside.later.entries c.self.inside.known.keys)
     c.ticket-ticket.result.lane c.ticket-ticket.result.number ≡ false
 fresh c = ap (λ d. was_taken d c.ticket-ticket.result.lane c.ticket-ticket.result.number) c.self.view_is ∙ (sym c.was_taken.ensures ∙ c.if-was_taken.false)
 
+-- what the code reads as the lane's next number
 at : (c : After-index) → c.index.result.now ≡ get_or c.self.inside.nexts.items c.args.delivery.lane 0
 at c = get_or_read c.self.inside.nexts.items c.args.delivery.lane c.index.result.now (low c)
     (c.index.ensures ∙ (λ i. get_or c.self.inside.nexts.items (lane_is c i) c.index.result.now)) 0
@@ -75,16 +72,17 @@ new c =
     let view = ap (λ (b : ReorderBuffer). length b.nexts) c.self.view_is in
     let less = low c in
     let in_lanes = lt-ltb c.args.delivery.lane (lanes_of d) (omega arith) in
-    let fresh = (λ i. was_taken d (sym c.ticket-ticket.ensures.lane i) (sym c.ticket-ticket.ensures.number i))
+    let not_taken = (λ i. was_taken d (sym c.ticket-ticket.ensures.lane i) (sym c.ticket-ticket.ensures.number i))
     ∙ (sym c.was_taken.ensures ∙ c.if-was_taken.false) in
-    λ i. in_lanes i && not (fresh i)
+    λ i. in_lanes i && not (not_taken i)
 
--- it is no next number
+-- if it is not the number read, it is not its lane's next number in the view
 not_next : (c : After-index) → (c.from.result ≡ c.index.result.now → ⊥) → c.args.delivery.number ≡ next_of c.args.self.now c.args.delivery.lane → ⊥
 not_next c other e =
     let next = ap (λ (b : ReorderBuffer). get_or b.nexts c.args.delivery.lane 0) c.self.view_is in
     other (c.from.ensures ∙ (c.ticket-ticket.ensures.number ∙ (e ∙ (sym next ∙ sym (at c)))))
 
+-- it is its lane's next number, and goes into that lane's slot
 next : (c : goal.Joined-index_mut) → c.ticket-ticket.result.number ≡ get_or c.self.inside.nexts.items c.args.delivery.lane 0
 next c = sym c.from.ensures ∙ (c.if-from-index.true ∙ at (goal.at.invariant_of-self c).After-index)
 
@@ -107,6 +105,7 @@ returns-then-from-index-clause-taken c =
 pub returns-then-from-index-clause-lanes : goal.returns-then-from-index-clause-lanes
 returns-then-from-index-clause-lanes c = ap (λ (d : ReorderBuffer). length d.nexts) c.self.view_is
 
+-- memory for its ticket is refused
 pub invariant_of-self-in_default : goal.invariant_of-self-in_default
 invariant_of-self-in_default c = rw c.in_default.ensures.err c.self.invariant
 
@@ -121,6 +120,7 @@ returns-in_default-clause-unchanged c = rw c.in_default.ensures.err c.self.view_
 pub returns-in_default-clause-lanes : goal.returns-in_default-clause-lanes
 returns-in_default-clause-lanes c = ap (λ (d : ReorderBuffer). length d.nexts) c.self.view_is
 
+-- it is kept as a later number
 pub invariant_of-self-in-Ok-insert : goal.invariant_of-self-in-Ok-insert
 invariant_of-self-in-Ok-insert c =
     let d = (goal.at.invariant_of-self-in-Ok-insert c).After-index in
@@ -136,6 +136,7 @@ returns-in-Ok-insert-clause-taken c =
     (later_taken _ _ _ _ c.self.invariant c.ticket-ticket.result c.args.delivery c.ticket-ticket.ensures.lane c.ticket-ticket.ensures.number (small d) (low d)
     (fresh d)))
 
+-- memory for the delivery is refused: its ticket is taken out again
 same_keys : (c : goal.After-remove) → c.remove.new.self.keys ≡ c.self.inside.known.keys
 same_keys c =
     let d = (goal.at.invariant_of-self-in-Err c).After-index in

@@ -1,15 +1,11 @@
 -- The three tests look at the three parts of what was taken in (`was_is`).
-use Rattle.std.proofs.Common.{◌≡◌, ◌==◌, ◌&&◌, ◌||◌, nat_lt, Bool, not, true, false, sym, ap, ◌∙◌, get_or, arith}
+use Rattle.std.proofs.Common.{◌≡◌, ◌==◌, ◌&&◌, ◌||◌, nat_lt, not, sym, ap, ◌∙◌, get_or, arith}
 use Rattle.std.proofs.lemmas.Grind.{common_steps}
 use Rattle.lane_core.specs.ReorderBuffer.{is_known, was_taken}
 use Rattle.lane_core.specs.inner.NextSlots.{has_come, slot_at}
 use Rattle.lane_core.proofs.BufferFacts.{was_is}
 use Rattle.lane_core.proofs.TicketLookup.{any_finds, finds_own}
 use Rattle.lane_core.proofs.deliverer.Deliverer.was_taken.Goals as goal
-
-either_of : (a b x c d y : Bool) → a ≡ c → b ≡ d → x ≡ y → ((a || b) || x) ≡ (c || d || y)
-either_of true b x c d y e f g = ap (λ n. n || d || y) e
-either_of false b x c d y e f g = (λ i. f i || g i) ∙ ap (λ n. n || d || y) e
 
 pub returns : goal.returns
 returns c =
@@ -22,6 +18,6 @@ returns c =
     let come : not c.match-matches.matches ≡ has_come (slot_at slots lane) = elim c.match-matches.branch [ goal.in-Missing w ↦ grind (arith, common_steps) | goal.in_default w ↦ grind (arith, common_steps) ] in
     let later : c.contains.result ≡ is_known lane number c.self.inside.known.keys =
     c.contains.ensures ∙ any_finds _ lane number (finds_own c.args.ticket) c.self.inside.known.keys in
-    either_of _ _ _ _ _ _ given (λ i. is_next i && come i) later
+    (λ i. given i || (is_next i && come i) || later i)
     ∙ (sym (was_is nexts slots c.self.inside.later.entries c.self.inside.known.keys c.self.invariant.lanes lane number)
     ∙ ap (λ d. was_taken d lane number) c.self.view_is)

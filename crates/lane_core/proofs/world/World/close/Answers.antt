@@ -1,8 +1,9 @@
 -- The lane is closed, if it is there and open.
-use Rattle.std.proofs.Common.{◌≡◌, ◌<◌, false, true, Some, length, map, arith}
+use Rattle.std.proofs.Common.{◌≡◌, ◌<◌, false, true, Some, length, map, arith, set}
 use Rattle.std.specs.List.{slice_get}
 use Rattle.std.proofs.lemmas.List.{map-set}
 use Rattle.lane_core.specs.declared.event.Event.TheVariants.{Close}
+use Rattle.lane_core.specs.Contents.{Steps, contents}
 use Rattle.lane_core.specs.Holding.{held, lane_held}
 use Rattle.lane_core.proofs.HeldFacts.{count_held, lane_at, open_still}
 use Rattle.lane_core.proofs.LaneShowFacts.{close_done, close_none, close_past}
@@ -21,6 +22,7 @@ returns-then-index-clause-steps c =
     rw (← c.self.view_is) (close_none (held c.self.inside) c.args.lane (lane_held c.index.result.now)
     (lane_at c.self.inside.lanes.items c.args.lane c.index.result.now less c.index.ensures) c.if-index.true)
 
+-- the lane is there and open; `submit` says the same of its own calls, and `poll` that the lane is there
 at : (c : After-index_mut) → slice_get (map lane_held c.self.inside.lanes.items) c.args.lane ≡ Some (lane_held c.index_mut.result.now)
 at c = lane_at c.self.inside.lanes.items c.args.lane c.index_mut.result.now (omega arith) c.index_mut.ensures.value
 
@@ -28,20 +30,18 @@ still_open : (c : After-index_mut) → c.index_mut.result.now.closed ≡ false
 still_open c = open_still c.self.inside.lanes.items c.args.lane c.index_mut.result.now c.index.result.now (omega arith) c.index_mut.ensures.value
     c.index.ensures c.if-index.false
 
-pub invariant_of-self : goal.invariant_of-self
-invariant_of-self c =
-    let lanes = c.self.inside.lanes.items in
+-- it closes, and nothing else of it changes
+closes : (c : After-index_mut) → Steps (held c.self.inside) (Close c.args.lane) true (contents c.self.inside.year
+    (map lane_held (set c.self.inside.lanes.items c.args.lane record
+    { closed = true; issued = c.index_mut.result.now.issued; handed = c.index_mut.result.now.handed; polled = c.index_mut.result.now.polled }))
+    c.self.inside.jobs.items c.self.inside.workers.items c.self.inside.results.items c.self.inside.deliverer)
+closes c =
     let x = c.index_mut.result.now in
-    let d = (goal.at.invariant_of-self c).After-index_mut in
-    rw (map-set lane_held lanes c.args.lane record { closed = true; issued = x.issued; handed = x.handed; polled = x.polled })
-    (shown_after (held c.self.inside) _ (Close c.args.lane) _ c.self.invariant
-    (close_done (held c.self.inside) c.args.lane (lane_held x) (at d) (still_open d)))
+    rw (map-set lane_held c.self.inside.lanes.items c.args.lane record { closed = true; issued = x.issued; handed = x.handed; polled = x.polled })
+    (close_done (held c.self.inside) c.args.lane (lane_held x) (at c) (still_open c))
+
+pub invariant_of-self : goal.invariant_of-self
+invariant_of-self c = shown_after (held c.self.inside) _ (Close c.args.lane) _ c.self.invariant (closes (goal.at.invariant_of-self c).After-index_mut)
 
 pub returns-clause-steps : goal.returns-clause-steps
-returns-clause-steps c =
-    let lanes = c.self.inside.lanes.items in
-    let x = c.index_mut.result.now in
-    let d = (goal.at.returns-clause-steps c).After-index_mut in
-    rw (← c.self.view_is)
-    (rw (map-set lane_held lanes c.args.lane record { closed = true; issued = x.issued; handed = x.handed; polled = x.polled })
-    (close_done (held c.self.inside) c.args.lane (lane_held x) (at d) (still_open d)))
+returns-clause-steps c = rw (← c.self.view_is) (closes (goal.at.returns-clause-steps c).After-index_mut)

@@ -10,7 +10,7 @@ use Rattle.lane_core.specs.Contents.{Contents, Steps, contents}
 use Rattle.lane_core.specs.Plain.{plain_of}
 use Rattle.lane_core.specs.Holding.{held, lane_held}
 use Rattle.lane_core.proofs.HeldFacts.{count_held, count_put, lane_at, same_lane, open_still}
-use Rattle.lane_core.proofs.LaneShowFacts.{submit_closed, submit_done, submit_full, submit_past}
+use Rattle.lane_core.proofs.LaneShowFacts.{submit_closed, submit_done, submit_spent, submit_past}
 use Rattle.lane_core.proofs.WorldShowsNext.{shown_after}
 use Rattle.lane_core.proofs.world.World.submit.Goals as goal
 use Rattle.lane_core.proofs.world.World.submit.Goals.{After-index, After-index_mut}
@@ -33,9 +33,10 @@ returns-then-index-clause-steps c =
 pub returns-then-issued-from-clause-steps : goal.returns-then-issued-from-clause-steps
 returns-then-issued-from-clause-steps c =
     let less : c.args.lane < length c.self.inside.lanes.items = omega arith in
-    rw (← c.self.view_is) (submit_full (held c.self.inside) c.args.lane c.args.row (lane_held c.index-2.result.now)
+    rw (← c.self.view_is) (submit_spent (held c.self.inside) c.args.lane c.args.row (lane_held c.index-2.result.now)
     (lane_at c.self.inside.lanes.items c.args.lane c.index-2.result.now less c.index-2.ensures) (omega arith))
 
+-- the lane is there and open; `close` says the same of its own calls, and `poll` that the lane is there
 at : (c : After-index_mut) → slice_get (map lane_held c.self.inside.lanes.items) c.args.lane ≡ Some (lane_held c.index_mut.result.now)
 at c = lane_at c.self.inside.lanes.items c.args.lane c.index_mut.result.now (omega arith) c.index_mut.ensures.value
 
@@ -43,6 +44,7 @@ still_open : (c : After-index_mut) → c.index_mut.result.now.closed ≡ false
 still_open c = open_still c.self.inside.lanes.items c.args.lane c.index_mut.result.now c.index.result.now (omega arith) c.index_mut.ensures.value
     c.index.ensures c.if-index.false
 
+-- both readings of its issued number agree, which is below the limit
 same_issued : (c : After-index_mut) → c.index-2.result.now.issued ≡ c.index_mut.result.now.issued
 same_issued c =
     let less : c.args.lane < length c.self.inside.lanes.items = omega arith in
@@ -77,6 +79,7 @@ invariant_of-self c = shown_after (held c.self.inside) _ (Submit c.args.lane c.a
 pub returns-in-Ok-clause-steps : goal.returns-in-Ok-clause-steps
 returns-in-Ok-clause-steps c = rw (← c.self.view_is) (submits (goal.at.returns-in-Ok-clause-steps c).After-index_mut _ c.in-Ok.ensures.items)
 
+-- memory for the job is refused: the row comes back, and the machine would have done the event
 pub returns-in-Err-clause-refused : goal.returns-in-Err-clause-refused
 returns-in-Err-clause-refused c =
     let less = low (goal.at.returns-in-Err-clause-refused c).After-index in

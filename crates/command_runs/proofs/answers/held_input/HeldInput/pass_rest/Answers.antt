@@ -1,4 +1,4 @@
--- The pieces that are passed over, one after another, are all that was left.
+-- The pieces that are passed over, one after another, are all that was left; `read_rest` does the same, and keeps them.
 use Rattle.std.proofs.Common.{[], ◌++◌}
 use Rattle.command_runs.proofs.HowRunsEnd.{told_fault}
 use Rattle.command_runs.proofs.answers.TakenAddsUp.{stops_later, takes_as, takes_both, takes_none}

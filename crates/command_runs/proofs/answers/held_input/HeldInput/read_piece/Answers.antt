@@ -1,4 +1,4 @@
--- A piece that fits into the room was taken more.
+-- A piece that does not fit into the room: the source gave more bytes than an input may have.
 use Rattle.std.proofs.Common.{arith, length-append, length-take, take, ◌++◌, ◌∙◌}
 use Rattle.std.proofs.KnownBytes.{Consumes-trans}
 use Rattle.command_runs.proofs.answers.held_input.HeldInput.read_piece.Goals as goal

@@ -1,4 +1,4 @@
--- The pieces that are read, one behind another, are all that was left.
+-- The pieces that are read, one behind another, are all that was left; `pass_rest` keeps none of them.
 use Rattle.std.proofs.Common.{[], ap, arith, append-nil, append_assoc, drop, refl, sym, ◌++◌, ◌∙◌}
 use Rattle.command_runs.specs.inner.HeldInputs.{held_of}
 use Rattle.command_runs.proofs.HowRunsEnd.{told_fault}

@@ -1,7 +1,7 @@
 -- A line that is cut off what is held is one more record, or none if it has no byte.
 use Rattle.std.proofs.Common.{length, refl, rules, ◌+◌, ◌<◌, ◌≡◌, ◌∙◌}
 use Rattle.command_runs.specs.inner.HeldInputs.{held_of}
-use Rattle.command_runs.proofs.answers.FirstLine.{line_found, none_found}
+use Rattle.command_runs.proofs.answers.FirstLine.{line_found, no_feed_found}
 use Rattle.command_runs.proofs.answers.ReadRows.{at_lines, line_passed, line_told, of_lines}
 use Rattle.command_runs.proofs.answers.row_reader.RowReader.next_line.Goals as goal
 
@@ -37,7 +37,7 @@ returns-in_default-clause-reads g c = λ lanes lent items gave.
 pub returns-in_default-clause-stays : goal.returns-in_default-clause-stays
 returns-in_default-clause-stays g c = record {
   at_lines = c.lines.invariant.course;
-  none = λ _. none_found c.held-held.result.now (held_of c.lines.self.input) c.line_start-start.result c.held-held.ensures c.line_start-start.ensures
+  none = λ _. no_feed_found c.held-held.result.now (held_of c.lines.self.input) c.line_start-start.result c.held-held.ensures c.line_start-start.ensures
       c.in_default.ensures;
   room = c.lines.invariant.room;
 }

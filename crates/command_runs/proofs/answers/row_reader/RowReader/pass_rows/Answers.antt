@@ -18,7 +18,7 @@ next_row-requires g c =
 pub rows-preserved : goal.rows-preserved
 rows-preserved g c = λ lanes lent items gave.
     let was = c.rows.invariant lanes lent items gave in
-    gave_any _ _ lanes lent c.next_row.new.self was.0 c.next_row.result (c.next_row.ensures lanes lent was.0 was.1)
+    gave_any _ _ lanes lent c.next_row.new.self was.0 c.next_row.result (c.next_row.ensures.gives lanes lent was.0 was.1)
 
 pub returns-clause-passes : goal.returns-clause-passes
 returns-clause-passes g c = λ lanes lent items gave.
@@ -27,7 +27,7 @@ returns-clause-passes g c = λ lanes lent items gave.
       | else-rows-test w ↦ subst (λ r. (more : List LaneRow) × GaveRows g.S.Source.left g.S.Source.failed lanes lent r more) (sym w.self-is) was
       | then-rows-test+in-None w ↦
           subst (λ r. (more : List LaneRow) × GaveRows g.S.Source.left g.S.Source.failed lanes lent r more) (sym w.self-is)
-          (gave_any _ _ lanes lent w.next_row.new.self was.0 w.next_row.result (w.next_row.ensures lanes lent was.0 was.1))
+          (gave_any _ _ lanes lent w.next_row.new.self was.0 w.next_row.result (w.next_row.ensures.gives lanes lent was.0 was.1))
     ] in
     passed
 

@@ -3,12 +3,12 @@ use Rattle.std.proofs.Common.{refl}
 use Rattle.command_runs.proofs.answers.ReadRows.{row_refused, row_told, rows_before}
 use Rattle.command_runs.proofs.answers.row_reader.RowReader.tell.Goals as goal
 
-pub returns-in-Ok : goal.returns-in-Ok
-returns-in-Ok g c = λ lanes lent items read.
+pub returns-in-Ok-clause-tells : goal.returns-in-Ok-clause-tells
+returns-in-Ok-clause-tells g c = λ lanes lent items read.
     row_told _ _ lanes lent c.args.self.now _ items c.in-Ok.row refl refl refl c.saturating_add-self.ensures (rw c.in-Ok.is at read)
 
-pub returns-in-Err : goal.returns-in-Err
-returns-in-Err g c = λ lanes lent items told.
+pub returns-in-Err-clause-tells : goal.returns-in-Err-clause-tells
+returns-in-Err-clause-tells g c = λ lanes lent items told.
     let read = rw c.in-Err.is at told in
     let before = rows_before _ _ lanes lent c.args.self.now items c.in-Err.refusal read in
     let why = c.why_refused-why.ensures in

@@ -1,6 +1,6 @@
 -- At first nothing has come and no reply is pending.
 use Rattle.command_runs.proofs.live.Words.{Held, [], ap, refl, sym, ◌∙◌}
-use Rattle.command_runs.proofs.live.LiveEnds.{come_at_first}
+use Rattle.command_runs.proofs.live.BeginningAndEnd.{come_at_first}
 use Rattle.command_runs.proofs.live.input.Live.new.Goals as goal
 
 pub returns-clause-ok : goal.returns-clause-ok
@@ -10,7 +10,7 @@ returns-clause-ok g c = (
   record {
     events = [];
     were_done = c.requires;
-    come = come_at_first c.args.terms c.in-Ok.lanes.items c.new-3.result.items c.in-Ok-new.lines c.in-Ok.ensures c.new-3.ensures.items c.in-Ok-new.ensures;
+    come = come_at_first c.args.terms c.in-Ok.lanes.items c.new-4.result.items c.in-Ok-new.lines c.in-Ok.ensures c.new-4.ensures.items c.in-Ok-new.ensures;
     terms = refl;
     read = λ f. (λ is. absurd (cc is), λ is. absurd (cc (f, is)));
     write = λ f. (λ is. absurd (cc is), λ is. absurd (cc (f, is)));

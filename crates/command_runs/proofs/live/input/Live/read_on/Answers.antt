@@ -1,7 +1,7 @@
 -- What is read comes behind what is held, and nothing that ended is unanswered then.
 use Rattle.command_runs.proofs.live.Words.{Held, Read, WriteFault, [], ap, inl, refl, sym, turn_of, ◌++◌, ◌∙◌, ◌∷◌}
 use Rattle.command_runs.proofs.live.LivedOn.{other_told}
-use Rattle.command_runs.proofs.live.ReadsAndWrites.{came_failed, came_read, no_fault}
+use Rattle.command_runs.proofs.live.ReadsAndWrites.{came_failed, came_read, no_wire_stop}
 use Rattle.command_runs.proofs.live.input.Live.read_on.Goals as goal
 
 pub returns-in-Err-clause-came : goal.returns-in-Err-clause-came
@@ -17,7 +17,7 @@ returns-in-Err-clause-came g c = λ start given brought l.
       come = rw e.err (came_failed _ (turn_of s) l.come opened c.requires c.in-None-line.ensures.none going);
       terms = l.terms;
       read = λ f. (λ _. did.faults.err, λ _. refl);
-      write = other_told _ _ _ s.stopped _ WriteFault (no_fault s.stopped opened).1 (λ is. cc is) did.faults.other_side l.write;
+      write = other_told _ _ _ s.stopped _ WriteFault (no_wire_stop s.stopped opened).1 (λ is. cc is) did.faults.other_side l.write;
       begun = λ is. cc is;
       ended = λ is. absurd (let wrong = sym (ap (λ (h : Held). h.has_ended) e.err ∙ going) ∙ is in cc wrong);
     }

@@ -1,6 +1,6 @@
 -- The line that is taken is that of the record whose reply is kept.
-use Rattle.command_runs.proofs.live.Words.{HasLived, LiveTerms, Ok, after_line, ap, length, sym, ◌∙◌, ◌≡◌}
-use Rattle.command_runs.proofs.live.LivedOn.{pool_used, takes_behind}
+use Rattle.command_runs.proofs.live.Words.{HasLived, LiveTerms, Ok, after_line, ap, length, refl, sym, ◌∙◌, ◌≡◌}
+use Rattle.command_runs.proofs.live.LivedOn.{takes_behind, took_none}
 use Rattle.command_runs.proofs.live.input.Live.take_line.Goals as goal
 
 pub keep-requires : goal.keep-requires
@@ -15,8 +15,9 @@ returns-in-Ok-clause-takes g c =
     let s = c.args.self.now in
     let used = c.next_record.new.pool in
     rw c.take_line.ensures (takes_behind (HasLived g.W.Wire.Did g.W.Wire.read_failed g.W.Wire.write_failed g.W.Wire.at_end) (Ok c.in-Ok.taken) s
-    (record s { pool = used }) (after_line (Ok c.in-Ok.taken) c.keep.new.self) (pool_used s used) c.in-Ok.ensures.takes)
+    (record s { pool = used }) (after_line (Ok c.in-Ok.taken) c.keep.new.self) (took_none s s.lanes s.replies s.lines used refl (λ p come. come)) c.in-Ok.ensures.takes)
 
 pub returns-in-Err-clause-takes : goal.returns-in-Err-clause-takes
 returns-in-Err-clause-takes g c = λ start given brought l.
-    c.in-Err.ensures.takes start given brought (pool_used c.args.self.now c.next_record.new.pool start given brought l)
+    let s = c.args.self.now in
+    c.in-Err.ensures.takes start given brought (took_none s s.lanes s.replies s.lines c.next_record.new.pool refl (λ p come. come) start given brought l)

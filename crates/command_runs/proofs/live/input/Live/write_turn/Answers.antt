@@ -1,7 +1,7 @@
 -- The lines that are written are the replies that were pending.
 use Rattle.command_runs.proofs.live.Words.{ReadFault, ap, refl, turn_of, writes_of, ◌++◌, ◌∙◌}
 use Rattle.command_runs.proofs.live.LivedOn.{other_told, took_nothing}
-use Rattle.command_runs.proofs.live.ReadsAndWrites.{all_ready, came_part, came_written, keeps, no_fault}
+use Rattle.command_runs.proofs.live.ReadsAndWrites.{all_ready, came_part, came_written, keeps, no_wire_stop}
 use Rattle.command_runs.proofs.live.input.Live.write_turn.Goals as goal
 
 pub push_replies-requires : goal.push_replies-requires
@@ -23,7 +23,7 @@ returns-in-Err-clause-came g c = λ start given brought l even.
       were_done = w.2.1 start.wire l.events l.were_done;
       come = came_part _ (turn_of s) l.come opened said.0 w.2.0 w.1 said.1 (ap (λ t. t ++ w.1) w.2.2 ∙ w.3 ∙ c.as_bytes.ensures.value ∙ said.2);
       terms = l.terms;
-      read = other_told _ _ _ s.stopped _ ReadFault (no_fault s.stopped opened).0 (λ is. cc is) e.faults.other_side l.read;
+      read = other_told _ _ _ s.stopped _ ReadFault (no_wire_stop s.stopped opened).0 (λ is. cc is) e.faults.other_side l.read;
       write = λ f. (λ _. e.faults.err, λ _. refl);
       begun = λ is. cc is;
       ended = λ is. e.end (l.ended is);

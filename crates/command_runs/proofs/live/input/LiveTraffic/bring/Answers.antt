@@ -26,5 +26,5 @@ returns-clause-brings g c = λ start given brought l next.
     let a = adds_one x.lane x brought next.lane in
     let moved : HasMoved 0 (x ∷ []) w v =
     record { first = refl; next = omega arith; deliveries = c.push_reserved.ensures.items; room = omega (arith, c.push_reserved.ensures.capacity) } in
-    lived_on s _ _ _ refl start given given brought (with_more x.lane x brought) l (rw here (came_lane _ (turn_of s) l.come x.lane w v got (x ∷ [])
+    lived_on s _ _ _ _ refl start given given brought (with_more x.lane x brought) l (rw here (came_lane _ (turn_of s) l.come x.lane w v got (x ∷ [])
     (with_more x.lane x brought) a moved (omega (arith, next.owed, ap length a.here, length-append (get_or brought x.lane []) (x ∷ [])))))

@@ -1,4 +1,4 @@
--- One more line is that of what the record means.
+-- The line that is written is what the record means, and stands behind those before it.
 use Rattle.std.proofs.Common.{◌∙◌, string_bytes, sym}
 use Rattle.csv.specs.Records.{fields_of}
 use Rattle.csv_records.proofs.check.CheckLinesGrow.{line_by_kind, one_more_check}

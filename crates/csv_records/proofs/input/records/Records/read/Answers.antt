@@ -9,6 +9,7 @@ use Rattle.csv_records.specs.input.Reading.{left_in}
 use Rattle.csv_records.proofs.Reaching.{are_records}
 use Rattle.csv_records.proofs.input.records.Records.read.Goals as goal
 
+-- `Ok` holds one answer
 same : (a b : Bool) → ◌≡◌ {A = Result Bool RecordRefusal} (Ok a) (Ok b) → a ≡ b
 same a b is = cc is
 

@@ -1,4 +1,4 @@
--- One more label is that of what the record means.
+-- The label that is pushed is what the record means, and stands behind those before it.
 use Rattle.std.proofs.Common.{◌++◌, ◌≡◌, ◌∙◌, ◌∷◌, [], ap, rules, true}
 use Rattle.std.specs.Result.{is_ok}
 use Rattle.csv_records.proofs.print.labels.LabelRecordsIntake.take.Goals as goal

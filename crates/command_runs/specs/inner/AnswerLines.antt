@@ -1,4 +1,4 @@
--- Lines as deliveries are brought (`report.rt`, `serving.rt`), and why rows are not served.
+-- Lines as deliveries are brought (`answers/report.rt`, `answers/serving.rt`), and why rows are not served.
 use Rattle.std.specs.Prelude.{◌≡◌, ◌<◌, ◌++◌, ℕ, List, [], String, length, map, slice_index_or, string_bytes}
 use Rattle.std.specs.Global.{Global}
 use Rattle.std.specs.List.{AllZip}
@@ -33,7 +33,8 @@ abbrev pub TellsOf : Plain → List (String Global) → List (String Global) →
 TellsOf x old new = (brought : List (List Plain)) → x.lane < length brought → x.number ≡ length (slice_index_or brought x.lane [])
     → AreLinesOf brought (map string_bytes old) → AreLinesOf (with_more x.lane x brought) (map string_bytes new)
 
--- why rows are not answered, if they are not served for this
+-- why rows are not answered, if they are not served for this (`live_fault` of specs/inner/LiveEnds is the same for a live input); `serve_traffic` never
+-- reports `BadCount`
 abbrev pub answer_fault : ServeFault → AnswerFault
 answer_fault serve.NoThread = answers.NoThread
 answer_fault serve.NoMemory = answers.NoMemory

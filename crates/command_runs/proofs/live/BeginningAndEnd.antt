@@ -1,19 +1,15 @@
--- A live input at its beginning and at its end, for `answer_live`.
+-- A live input at its beginning and at its end, for `Live::new` and `answer_live`.
 use Rattle.command_runs.specs.declared.live.fault.LiveFault.TheVariants as fault
 use Rattle.hub_core.specs.declared.fault.ServeFault.TheVariants as serve
-use Rattle.command_runs.proofs.live.Words.{AnswersBy, AreFresh, AreOfRows, AreServedFirst, Bool, Ended, Err, Event, HasCome, Held, IsFresh, IsFrontBy, IsKept, IsPromptBy, IsReplyTo, KeepsReplies, List, LiveFault, LiveTerms, Lived, None, Option, Past, PendingReply, Plain, ServeFault, ServedByPlace, Some, Waiting, [], and_parts, ap, append-nil, arith, counts, eqb-true, false, get_or, get_or_from_slice_get, got_more, held_line, is_none, length, length-replicate, line_meant, lines_are_pieces, live_fault, nat_eq, nil_from_length, nothing_held, pieces_of, plain_of, refl, replicate, replies_in, same_Some, served, slice_get, slice_get_within, subst, suc, sym, true, was_read, was_written, zero, ℕ, ⊎_elim, ◌&&◌, ◌++◌, ◌∙◌, ◌∷◌, ◌≡◌, ◌≢◌}
+use Rattle.command_runs.proofs.live.Words.{AnswersBy, AreFresh, AreOfRows, AreServedFirst, Bool, Ended, Err, Event, HasCome, Held, IsFresh, IsFrontBy, IsKept, IsPromptBy, IsReplyTo, KeepsReplies, List, LiveFault, LiveTerms, Lived, None, Option, Past, PendingReply, Plain, ServeFault, ServedByPlace, Some, Waiting, [], and_parts, ap, append-nil, arith, counts, eqb-true, false, get_or, get_or_from_slice_get, got_more, held_line, is_none, length, length-replicate, line_meant, lines_are_pieces, live_fault, nat_eq, nil_from_length, nothing_held, pieces_of, plain_of, refl, replicate, replies_in, same_Some, served, slice_get, slice_get_within, subst, sym, true, was_read, was_written, ℕ, ⊎_elim, ◌&&◌, ◌++◌, ◌∙◌, ◌∷◌, ◌≡◌, ◌≢◌}
 use Rattle.command_runs.proofs.live.RepliesGrow.{replies_more}
 use Rattle.command_runs.proofs.live.ReadsAndWrites.{all_done}
+use Rattle.hub_core.proofs.ListsOfLists.{empties_at}
 use Rattle.hub_core.specs.declared.ended.Ended.TheVariants.{BringFailed, Done, NoMemory, WaitFailed}
 
 -- ---- the beginning
 
-none_at : {X : Type 0} (n l : ℕ) → get_or (replicate {A = List X} n []) l [] ≡ []
-none_at zero l = refl
-none_at (suc n) zero = refl
-none_at (suc n) (suc l) = none_at n l
-
--- no read and no write: nothing came before a read, and what was written is the first of whatever answers
+-- no read and no write: nothing came before a read, and what was written is a front of whatever answers
 nothing_prompt : {X : Type 0} (L : X → List ℕ → Type 0) (records : List (List ℕ) → List X) → IsPromptBy L records []
 nothing_prompt L records [] after bytes is = absurd (cc is)
 nothing_prompt L records (e ∷ before) after bytes is = absurd (cc is)
@@ -22,6 +18,7 @@ nothing_front : {X : Type 0} (L : X → List ℕ → Type 0) (records : List (Li
 nothing_front L records [] after is = ([], records (pieces_of []), [], [], refl, tt, refl)
 nothing_front L records (e ∷ before) after is = absurd (cc is)
 
+-- nothing has come of a lane, no reply is pending and no byte was read
 pub come_at_first : (f : LiveTerms) (lanes : List Waiting) (replies : List PendingReply) (h : Held) → AreFresh f.lanes lanes → replies ≡ [] → h ≡ nothing_held
     → HasCome (record { terms = f; events = []; given = replicate f.lanes []; brought = replicate f.lanes [] })
     (record { lanes = lanes; replies = replies; lines = h; stopped = None })
@@ -33,7 +30,7 @@ come_at_first f lanes replies h fresh none held =
         rows = length-replicate n [];
         deliveries = length-replicate n [];
         each = λ l w at. let is = subst IsFresh (get_or_from_slice_get lanes l w w at) (fresh.each l w (slice_get_within lanes l w at)) in
-            rw (none_at {X = List ℕ} n l, none_at {X = Plain} n l) (record {
+            rw (empties_at {X = List ℕ} n l, empties_at {X = Plain} n l) (record {
               written = [];
               whole = sym is.deliveries;
               first = is.first;
@@ -49,7 +46,7 @@ come_at_first f lanes replies h fresh none held =
         lines = lines_are_pieces.first;
         replied = refl;
         pending = tt;
-        numbers = λ i l. sym (ap length (none_at {X = List ℕ} n l)) i;
+        numbers = λ i l. sym (ap length (empties_at {X = List ℕ} n l)) i;
         answers = λ _. ([], tt, refl);
       };
       stands = λ _. record {
@@ -107,17 +104,17 @@ all_answered p lanes rs h k are empty none ended =
     (lines_are_pieces.ended (was_read p.events) k.taken h k.lines none ended) in
     rw (whole, all_done k empty) (k.answers are)
 
--- what it is to be finished
-pub finished : (ended : Bool) (held : Option (List ℕ)) (replies : List PendingReply) (stopped : Option LiveFault)
+-- what it is to be finished: the type writes the parts of `is_finished` (specs/inner/Finish) out, since the cases are told apart by them
+pub finished_parts : (ended : Bool) (held : Option (List ℕ)) (replies : List PendingReply) (stopped : Option LiveFault)
     → (ended && (is_none held && (nat_eq (length replies) 0 && is_none stopped))) ≡ true → (ended ≡ true) × (held ≡ None) × (replies ≡ []) × (stopped ≡ None)
-finished true None replies None is = (refl, refl, nil_from_length replies (eqb-true (length replies) 0 (and_parts (nat_eq (length replies) 0) true is).0), refl)
-finished true None replies (Some fault) is = cc (and_parts (nat_eq (length replies) 0) false is).1
-finished true (Some line) replies stopped is = cc
-finished false held replies stopped is = cc
+finished_parts true None replies None is = (refl, refl, nil_from_length replies (eqb-true (length replies) 0 (and_parts (nat_eq (length replies) 0) true is).0), refl)
+finished_parts true None replies (Some fault) is = cc (and_parts (nat_eq (length replies) 0) false is).1
+finished_parts true (Some line) replies stopped is = cc
+finished_parts false held replies stopped is = cc
 
--- nothing that was brought was lost
-pub none_lost : {S B : Type 0} → (B → ⊥) → (e : Ended S B) → IsKept e
-none_lost never Done = tt
-none_lost never NoMemory = tt
-none_lost never (WaitFailed f) = tt
-none_lost never (BringFailed f) = absurd (never f)
+-- if bringing never fails, no delivery was lost (`IsKept`)
+pub kept_if_never : {S B : Type 0} → (B → ⊥) → (e : Ended S B) → IsKept e
+kept_if_never never Done = tt
+kept_if_never never NoMemory = tt
+kept_if_never never (WaitFailed f) = tt
+kept_if_never never (BringFailed f) = absurd (never f)

@@ -1,5 +1,5 @@
--- Rows of records that are read as workers answer them (`rows.rt`): what was given and brought, and what is told at the end.
-use Rattle.std.specs.Prelude.{◌≡◌, ◌↔◌, ℕ, Bool, false, true, List, [], IfErr, IfOk, IsErrOf, Option, Result, Ok, Err, String, map, replicate, string_bytes}
+-- Rows of records that are read as workers answer them (`answers/rows.rt`): what was given and brought, and what is told at the end.
+use Rattle.std.specs.Prelude.{◌≡◌, ℕ, Bool, false, true, List, [], IfErr, IfOk, Option, Result, Ok, Err, String, map, replicate, string_bytes}
 use Rattle.std.specs.Borrow.{MutBor}
 use Rattle.std.specs.Global.{Vec}
 use Rattle.std.proofs.Common.{Global}
@@ -9,9 +9,10 @@ use Rattle.element_core.specs.Terms.{Terms}
 use Rattle.csv_records.specs.input.Records.{Takes}
 use Rattle.csv_records.specs.lanes.Feeds.{LaneRow, feeds_of, lanes_meaning}
 use Rattle.csv_records.specs.declared.input.fault.RecordsFault.TheVariants as refused
+use Rattle.command_runs.specs.Runs.{TellsFault}
 use Rattle.command_runs.specs.answers.Reports.{IsReport}
 use Rattle.command_runs.specs.answers.Rows.{RefusesRows}
-use Rattle.command_runs.specs.inner.Reports.{AreLinesOf}
+use Rattle.command_runs.specs.inner.AnswerLines.{AreLinesOf}
 use Rattle.command_runs.specs.inner.RowReaders.{GaveRows}
 use Rattle.command_runs.specs.declared.answers.row_reader.Course.{Course}
 use Rattle.command_runs.specs.declared.answers.row_reader.Course.TheVariants as course
@@ -34,7 +35,7 @@ pub record HasGiven {S : Type 0} (left : S → Option (List ℕ)) (failed : S �
   pub fed : given ≡ feeds_of start.rows.lanes items
   pub lines : AreLinesOf brought (map string_bytes s.texts.items)
 
--- none of them was given yet, and no lane has a line
+-- no row of the source was given yet, and no lane has a line
 abbrev pub BeginsUnanswered : {S : Type 0} → (S → Option (List ℕ)) → (S → Bool) → ℕ → RowReader S → List (String Global) → Type 0
 BeginsUnanswered left failed lanes r texts = GaveRows left failed lanes r.input.source r [] × (map string_bytes texts ≡ replicate lanes [])
 
@@ -49,8 +50,8 @@ pub record IsToldOf {S : Type 0} (left : S → Option (List ℕ)) (failed : S �
   pub same : r.input.source.ghost_name ≡ lent.ghost_name
   pub nothing : IfOk told (λ lines. (string_bytes lines ≡ []) × Takes (lanes_meaning lanes) (λ items. items ≡ []) (left lent.now) (left r.input.source.now))
   pub why : IfErr told (RefusesRows lanes (left lent.now) (left r.input.source.now))
-  pub fault : failed lent.now ≡ false → (IsErrOf told (rows.Records refused.ReadFault) ↔ (failed r.input.source.now ≡ true))
+  pub fault : TellsFault failed lent.now r.input.source.now told (rows.Records refused.ReadFault)
 
--- the same, whatever the source and whatever rows were given
+-- what is told of it, whatever the source and whatever rows were given
 abbrev pub TellsOfRows : {S : Type 0} → (S → Option (List ℕ)) → (S → Bool) → RowReader S → Result (String Global) RowsFault → Type 0
 TellsOfRows {S} left failed r told = (lanes : ℕ) (lent : MutBor S) (items : List LaneRow) → GaveRows left failed lanes lent r items → IsToldOf left failed lanes lent r told

@@ -1,11 +1,11 @@
--- Widths at the front of a text, as `widths.rt` finds them, and as it keeps them.
+-- Widths at the front of a text, as `lanes/widths.rt` finds them, and widths as it keeps them.
 use Rattle.std.specs.Prelude.{◌≡◌, ◌≢◌, ◌<◌, ◌+◌, ◌-◌, ◌*◌, get_or, map, min, nat_lt, ℕ, Bool, List, [], ◌∷◌, true, length}
 use Rattle.std.specs.Char.{is_ascii_digit}
 use Rattle.std.specs.List.{list_any}
 use Rattle.std.specs.Str.Parse.{digits_value}
 use Rattle.csv_records.specs.lanes.Widths.{is_number, words_of}
 
--- this width begins the text, a word of one to five digits, and the words after it, if there are any, are those of the rest
+-- the first word of the text is one to five digits and shows this width; the words behind it, if there are any, are those of the rest
 pub record IsFirstWidth (text : List ℕ) (width : ℕ) (rest : List ℕ) : Type 0 where
   pub word : List ℕ
   pub others : List (List ℕ)
@@ -22,10 +22,10 @@ IsDigitWord text i width = (is_ascii_digit (get_or text (2 * i) 0) ≡ true) × 
 abbrev pub BeginsWithDigits : List ℕ → List ℕ → Type 0
 BeginsWithDigits text widths = (i : ℕ) → i < length widths → IsDigitWord text i (get_or widths i 0)
 
--- widths, each above 65,535 as 65,535
+-- widths as `read_widths` keeps them in a `u16` each: 65,535, its largest number, in place of a larger one
 abbrev pub capped : List ℕ → List ℕ
 capped widths = map (min 65535) widths
 
--- one is above it
+-- one of these widths is above 65,535
 abbrev pub has_wide : List ℕ → Bool
 has_wide widths = list_any (nat_lt 65535) widths
