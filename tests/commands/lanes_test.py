@@ -1,5 +1,7 @@
 """Rows that lanes send: records and their faults, and what is answered to rows of each carrier, in both directions."""
 
+import time
+
 from program import CommandTest
 from rows import EAN8_ROW, GS1128_ROW, SYMBOL, WIDE_SPACE, WRONG_CHECK_DIGIT, runs
 
@@ -46,6 +48,13 @@ class RecordsTest(CommandTest):
 
     def test_eleven_lines_of_a_lane(self):
         self.answers(1, 1, 11 * "0,0\n", "".join(f"0 {number} refused 19 Blank\n" for number in range(11)))
+
+    def test_wakes(self):
+        """A worker that nobody wakes sleeps for a second (`REST` in hub_core). Nobody may wait for that at the end of a run."""
+        start = time.monotonic()
+        for _ in range(30):
+            self.answers(1, 4, "0,0\n", "0 0 refused 19 Blank\n")
+        self.assertLess(time.monotonic() - start, 15)
 
     def test_any_number_of_workers(self):
         rows = f"1,{EAN8_ROW}\n2,11 {SYMBOL} 7\n2,100\n2,11 {SYMBOL} 7\n2,{EAN8_ROW}\n2,{GS1128_ROW}\n"

@@ -1,4 +1,6 @@
-"""Which threads read rows: the workers that were asked for, and not the thread that writes the answers."""
+"""That workers read the rows, as many workers as were asked for.
+
+A calling thread that reads rows too fails `one_worker_reads_the_rows_of_a_lane` of crates/acceptance."""
 
 import os
 import subprocess
@@ -14,33 +16,30 @@ ROWS = 100_000
 
 
 def ticks(process):
-    """The processor time of each thread that the process has now, in ticks of a hundredth of a second."""
+    """The processor time of each thread of the process that has not ended, in ticks of a hundredth of a second."""
     found = {}
     for thread in os.listdir(f"/proc/{process}/task"):
-        try:
-            with open(f"/proc/{process}/task/{thread}/stat", encoding="utf-8") as file:
-                fields = file.read().rpartition(")")[2].split()
-        except OSError:
-            continue
+        with open(f"/proc/{process}/task/{thread}/stat", encoding="utf-8") as file:
+            fields = file.read().rpartition(")")[2].split()
         found[int(thread)] = int(fields[11]) + int(fields[12])
     return found
 
 
 class ReadersTest(CommandTest):
     def of_a_run(self, workers):
-        """The ticks of the calling thread, and those of the workers together, of a run."""
+        """The ticks of the calling thread, and those of the workers together, for all rows but the last few."""
         words = f"lanes --lanes 1 --workers {workers} --year 2026".split()
-        last = {}
         with subprocess.Popen([program.PATH, *words], stdin=subprocess.PIPE, stdout=subprocess.DEVNULL) as it:
             it.stdin.write(f"0,11 {SYMBOL} 7\n".encode() * ROWS)
+            it.stdin.flush()
+            # Until its input ends, no thread of it does. Here it waits for more, with hardly a row left to read.
+            time.sleep(0.05)
+            found = ticks(it.pid)
             it.stdin.close()
-            while it.poll() is None:
-                last.update(ticks(it.pid))
-                time.sleep(0.002)
         self.assertEqual(it.returncode, 0)
-        calling = last.pop(it.pid)
-        self.assertEqual(len(last), workers, "threads beside the calling one")
-        return calling, sum(last.values())
+        calling = found.pop(it.pid)
+        self.assertEqual(len(found), workers, "threads beside the calling one")
+        return calling, sum(found.values())
 
     @unittest.skipIf(program.EMULATED, "an emulator has threads of its own")
     def test_workers_read_the_rows(self):
