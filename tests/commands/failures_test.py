@@ -135,6 +135,18 @@ class FailuresTest(CommandTest):
         records = 1_500_000 * b"digit,123\n"
         self.is_refused(self.limited(CHECK, records, 8), "refused 43 NoMemory")
 
+    def test_memory_of_what_is_held(self):
+        # One row takes 12 MiB, a thread's stack of 8 MiB among them. If all of these 16 MB were held, 20 MiB would be too little.
+        rows = 4_000 * (b"0," + 1_998 * b"1 " + b"1\n")
+        lines = "".join(f"0 {number} refused 20 RunCount\n" for number in range(4_000))
+        sheets = 15 * (b"P4\n2240 3840\n" + bytes(2_240 // 8 * 3_840))
+        scan = "scan --module 2 --width 560 --height 120 --columns 4 --rows 32 --workers 1 --year 2026"
+        cells = "".join(f"{column} {number} refused 19 Blank\n" for column in range(4) for number in range(15 * 32))
+        options = "--lanes 1 --workers 1 --year 2026"
+        for command, given, output in [(f"lanes {options}", rows, lines), (f"live {options}", rows, lines), (scan, sheets, cells)]:
+            with self.subTest(command):
+                self.assertEqual(self.limited(command, given, 20).outcome(), (0, output.encode(), ""))
+
     def test_an_image_takes_the_memory_of_its_bytes(self):
         # Its header announces 512 MiB, and no byte of them comes.
         self.is_refused(self.limited(f"scan {GRID} --workers 1", b"P4 65535 65535 ", ROOM), "refused 30 Truncated")

@@ -5,7 +5,9 @@ pub mod ColumnCounts
 pub mod ColumnsByPlace
 pub mod ColumnsGrow
 pub mod FewEnough
+pub mod HowLanesEnds
 pub mod HowRunsEnd
+pub mod HowScanEnds
 pub mod LabelReadings
 pub mod LanesOnce
 pub mod ListPlaces
@@ -14,3 +16,4 @@ pub mod PrintOnce
 pub mod PrintedAnswers
 pub mod RowsOfCells
 pub mod ScanOfPrinted
+pub mod ToldFaults

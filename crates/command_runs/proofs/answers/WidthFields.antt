@@ -3,12 +3,13 @@ use Rattle.std.proofs.Common.{◌≡◌, ◌+◌, ◌<◌, ◌&&◌, ◌==◌, �
 use Rattle.std.specs.Char.{is_ascii_digit}
 use Rattle.std.specs.List.{list_all, onto_first}
 use Rattle.std.specs.Str.Parse.{digits_value}
-use Rattle.std.proofs.lemmas.Bool.{and_from, and_parts, eqb-true, ne_eqb, true≢false}
+use Rattle.std.proofs.lemmas.Bool.{and_from, and_parts, eqb-true}
 use Rattle.std.proofs.lemmas.List.Elements.{All-cons, All-nil}
 use Rattle.std.proofs.lemmas.List.Splits.{length-slice_split, slice_split_none}
 use Rattle.memchr.specs.Find.{IsFirstByte, is_byte}
 use Rattle.command_runs.specs.live.Text.{fields_in, is_comma}
 use Rattle.command_runs.proofs.live.LineMeanings.{first_field, only_field, row_of_fields}
+use Rattle.csv_records.proofs.Decimals.{digit_differs}
 use Rattle.csv_records.specs.lanes.Feeds.{LaneRow, is_lane, lane_row}
 use Rattle.csv_records.specs.lanes.Widths.{are_widths, field_fault, is_number, of_runs, widths_in, words_of}
 use Rattle.csv_records.specs.declared.input.fault.RecordFault.{RecordFault}
@@ -31,10 +32,6 @@ widths_are_digits (word ∷ words) is =
     let both = and_parts (is_number 5 word) (are_widths words) is in
     and_from (list_all is_ascii_digit word) (are_digit_words words) (word_digits word both.0) (widths_are_digits words both.1)
 
--- a digit is no comma, 44
-digit_no_comma : (b : ℕ) → is_ascii_digit b ≡ true → (b == 44) ≡ false
-digit_no_comma b is = ne_eqb b 44 (λ e. true≢false (sym is ∙ ap is_ascii_digit e))
-
 -- a byte at the front of the first word
 first_digits : (b : ℕ) (words : List (List ℕ)) → are_digit_words (onto_first b words) ≡ true → (is_ascii_digit b ≡ true) × (are_digit_words words ≡ true)
 first_digits b [] is = ((and_parts (is_ascii_digit b) true (and_parts (is_ascii_digit b && true) true is).0).0, refl)
@@ -43,11 +40,11 @@ first_digits b (word ∷ words) is =
     let first = and_parts (is_ascii_digit b) (list_all is_ascii_digit word) both.0 in
     (first.0, and_from (list_all is_ascii_digit word) (are_digit_words words) first.1 both.1)
 
--- a byte before words is a space, 32, or begins the first of them
+-- a byte before words is a space, 32, or begins the first of them: it is no comma, 44
 byte_before_words : (b : ℕ) (words : List (List ℕ)) (is_space : Bool) → (b == 32) ≡ is_space
     → are_digit_words (cond is_space ([] ∷ words) (onto_first b words)) ≡ true → ((b == 44) ≡ false) × (are_digit_words words ≡ true)
 byte_before_words b words true e is = (ap (λ n. n == 44) (eqb-true b 32 e), is)
-byte_before_words b words false e is = let first = first_digits b words is in (digit_no_comma b first.0, first.1)
+byte_before_words b words false e is = let first = first_digits b words is in (digit_differs b 44 first.0 refl, first.1)
 
 -- so a field whose words are digits has no comma
 no_commas : (field : List ℕ) → are_digit_words (words_of field) ≡ true → All (λ b. is_comma b ≡ false) field

@@ -1,5 +1,5 @@
 -- How far a live input has come (`live/input.rt`): the lanes of a turn, the replies that are pending, what was read and written.
-use Rattle.std.specs.Prelude.{◌≡◌, ◌≢◌, ◌<◌, ◌≤◌, ◌-◌, ◌+◌, ◌++◌, Bool, true, ⊤, ℕ, List, [], Option, Some, Result, Ok, Err, length, replicate, slice_get, slice_index_or, vec_capacity}
+use Rattle.std.specs.Prelude.{◌≡◌, ◌≢◌, ◌<◌, ◌≤◌, ◌-◌, ◌+◌, ◌++◌, Bool, true, ⊤, ℕ, List, [], Option, None, Some, Result, Ok, Err, length, replicate, slice_get, slice_index_or, vec_capacity}
 use Rattle.std.specs.List.{AllZip}
 use Rattle.std.specs.declared.alloc.AllocError.{AllocError}
 use Rattle.scan_core.specs.Answers.{IsAnswer}
@@ -148,9 +148,9 @@ pub record HasLived {W : Type 0} (did : W → W → List Event → Type 0) (read
   pub begun : s.stopped ≢ Some NoThread
   pub ended : s.lines.has_ended ≡ true → at_end s.wire
 
--- a live input of this wire, of which nothing has been read
+-- a live input of this wire, of which nothing has been read and which has not stopped
 abbrev pub HasBegun : {W : Type 0} → History (Live W) → LiveTerms → W → Live W → Type 0
-HasBegun came terms wire s = (s.wire ≡ wire) × (s.terms ≡ terms) × came s s (replicate terms.lanes []) (replicate terms.lanes [])
+HasBegun came terms wire s = (s.wire ≡ wire) × (s.terms ≡ terms) × (s.stopped ≡ None) × came s s (replicate terms.lanes []) (replicate terms.lanes [])
 
 -- a row that was taken was given to the hub, and nothing else was
 abbrev pub TakesLine : {W : Type 0} → History (Live W) → Result NextLine AllocError → Live W → Live W → Type 0

@@ -1,5 +1,5 @@
 //! The faults that end a live input, and whether the lines of its last turn may still be written.
-ghost use Rattle.std.specs.Prelude.{◌≡◌, true};
+ghost use Rattle.std.specs.Prelude.{◌↔◌, IsTrue};
 ghost use Rattle.command_runs.specs.inner.Stops.{MayStillWrite};
 
 /// Why a live input is answered no longer.
@@ -15,10 +15,9 @@ pub enum LiveFault {
     NoThread,
 }
 
-/// Whether the lines of a turn may still be written: nothing has stopped, or memory alone was refused. False claims
-/// nothing: the tests of the command `live` notice an answer that is held back.
+/// Whether the lines of a turn may still be written: nothing has stopped, or memory alone was refused.
 pub fn is_open(stopped: Option<LiveFault>) -> bool
-    ensures { result ≡ true → MayStillWrite stopped }
+    ensures { IsTrue result ↔ MayStillWrite stopped }
 {
     match stopped {
         None | Some(LiveFault::NoMemory) => true,

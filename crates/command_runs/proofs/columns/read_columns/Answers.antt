@@ -7,7 +7,7 @@ use Rattle.sheet_core.specs.pbm.Images.{ReadsBytes, images_by, images_of}
 use Rattle.command_runs.specs.Columns.{ReadsColumns}
 use Rattle.command_runs.proofs.ColumnCounts.{columns_counted, feeds_short}
 use Rattle.command_runs.proofs.ColumnsGrow.{columns_of_none}
-use Rattle.command_runs.proofs.HowRunsEnd.{told_fault}
+use Rattle.command_runs.proofs.ToldFaults.{told_fault}
 use Rattle.command_runs.proofs.columns.read_columns.Goals as goal
 
 -- no bytes are no images: `no_images` of sheet_core's FileFacts, which that crate does not export

@@ -5,7 +5,7 @@ use Rattle.digits_core.specs.Bytes.{TookFront}
 use Rattle.command_runs.specs.inner.Buffers.{taken_and_waiting}
 use Rattle.command_runs.specs.declared.fault.CommandFault.TheVariants as command
 use Rattle.command_runs.proofs.BufferedIsTaken.{may_fail, took_front}
-use Rattle.command_runs.proofs.HowRunsEnd.{refused_as}
+use Rattle.command_runs.proofs.ToldFaults.{refused_as}
 use Rattle.command_runs.proofs.commands.run_and_flush.Goals as goal
 
 pub returns-in_err-run : goal.returns-in_err-run

@@ -6,7 +6,9 @@ use Rattle.command_runs.specs.commands.Lanes.{lanes_command}
 use Rattle.command_runs.specs.Faults.{of_rows}
 use Rattle.command_runs.specs.declared.answers.rows.RowsFault.TheVariants as rows_fault
 use Rattle.csv_records.specs.declared.input.fault.RecordsFault.TheVariants as records
-use Rattle.command_runs.proofs.HowRunsEnd.{not_cut, one_fault_told, records_cut, refused_as, rows_no_write, rows_only_read, rows_unanswered, told_fault}
+use Rattle.command_runs.proofs.HowLanesEnds.{rows_told, rows_unanswered}
+use Rattle.command_runs.proofs.HowRunsEnd.{records_cut}
+use Rattle.command_runs.proofs.ToldFaults.{not_cut, one_fault_told, refused_as, told_fault}
 use Rattle.command_runs.proofs.FewEnough.{count_fits}
 use Rattle.command_runs.proofs.commands.lanes.run_lanes.Goals as goal
 
@@ -24,12 +26,12 @@ returns-in_err-lines g c =
     let told = c.from_residual.ensures.1 in
     record {
       ok = search rules;
-      cut = λ same. absurd (not_cut r (of_rows fault) (rows_no_write fault) told same);
+      cut = λ same. absurd (not_cut r (of_rows fault) (rows_told fault).0 told same);
       refused = refused_as r (of_rows fault) ((lanes_command o).refuses left rest) told
           (rows_unanswered o.lanes left rest fault c.in_err-lines.ensures.refused);
       unwritten = search rules;
       read = λ sound. let same = c.in_err-lines.ensures.fault sound in (
-        λ is. same.0 (ap (λ f. Err f) (rows_only_read fault (one_fault_told r (of_rows fault) _ told is))),
+        λ is. same.0 (ap (λ f. Err f) ((rows_told fault).1 (one_fault_told r (of_rows fault) _ told is))),
         λ failed. let is : fault ≡ rows_fault.Records records.ReadFault = cc (same.1 failed) in told_fault r (of_rows fault) told ∙ ap (λ f. Err (of_rows f)) is,
       );
       write = search rules;

@@ -24,7 +24,7 @@ use Rattle.command_runs.specs.Faults.{failed_write, no_memory, of_prints, of_she
 use Rattle.command_runs.specs.commands.Prints.{IsPrinted, IsUnprinted}
 use Rattle.command_runs.specs.inner.Prints.{LeavesPrinted}
 use Rattle.csv_records.specs.print.Labels.{label_lines}
-use Rattle.command_runs.proofs.HowRunsEnd.{never_refused, not_cut, one_fault_told, refused_as, told_fault}
+use Rattle.command_runs.proofs.ToldFaults.{never_refused, not_cut, one_fault_told, refused_as, told_fault}
 use Rattle.command_runs.proofs.commands.print.write_labels.Goals as goal
 
 -- the lines, where text is asked for, of as many cells as are counted

@@ -9,8 +9,9 @@ use Rattle.command_runs.specs.answers.Reports.{IsReport}
 use Rattle.command_runs.specs.Faults.{bad_grid, of_answers, of_images}
 use Rattle.command_runs.specs.commands.Scans.{scan_command}
 use Rattle.command_runs.specs.declared.fault.CommandFault.TheVariants as command
-use Rattle.command_runs.proofs.HowRunsEnd.{answers_no_read, answers_no_write, columns_of, cut_run, images_cut, images_no_write, images_only_read, images_refused, images_unanswered, never_refused}
-use Rattle.command_runs.proofs.HowRunsEnd.{refused_run, sized_as, written_run}
+use Rattle.command_runs.proofs.HowRunsEnd.{cut_run, refused_run, written_run}
+use Rattle.command_runs.proofs.HowScanEnds.{answers_told, columns_of, images_cut, images_refused, images_told, images_unanswered, sized_as}
+use Rattle.command_runs.proofs.ToldFaults.{never_refused}
 use Rattle.command_runs.proofs.FewEnough.{counts_hold}
 use Rattle.command_runs.proofs.commands.scan.run_scan.Goals as goal
 
@@ -29,9 +30,9 @@ returns-in_err-feeds g c =
     let reads = c.in_err-feeds.ensures.fault in
     refused_run (scan_command o) g.S.Source.left g.S.Source.failed g.W.Sink.taken g.W.Sink.failed c.args.source.now c.read_columns.new.source c.args.sink.now
     c.from_residual-in_err-feeds.result (of_images fault) c.from_residual-in_err-feeds.ensures.1
-    (images_refused o left rest fault (c.in_ok-grid.ensures.exact.0 refl) c.in_err-feeds.ensures.read) (images_no_write fault)
+    (images_refused o left rest fault (c.in_ok-grid.ensures.exact.0 refl) c.in_err-feeds.ensures.read) (images_told fault).0
     (λ sound. (
-      λ same. (reads sound).0 (ap (λ f. Err f) (images_only_read fault same)),
+      λ same. (reads sound).0 (ap (λ f. Err f) ((images_told fault).1 same)),
       λ failed. let told : fault ≡ ReadFault = cc ((reads sound).1 failed) in ap of_images told,
     ))
 
@@ -41,7 +42,7 @@ returns-in_default g c =
     let read = c.in_ok-feeds.ensures.read in
     let sheets = read.0 in
     let other = MatchOption-at_none _ _ c.in_default.is read.2 in
-    let size = sized_as c.in_ok-grid.grid (cells_of o.grid) sheets sheets false c.in_ok-grid.ensures.ok refl (sym other) in
+    let size = sized_as c.in_ok-grid.grid (cells_of o.grid) sheets false c.in_ok-grid.ensures.ok (sym other) in
     refused_run (scan_command o) g.S.Source.left g.S.Source.failed g.W.Sink.taken g.W.Sink.failed c.args.source.now c.read_columns.new.source c.args.sink.now
     (Err command.PbmSize) command.PbmSize refl
     (c.in_ok-grid.ensures.exact.0 refl, inr (read.1.bytes, (read.1.consumed, read.3), sheets, read.1.tells, size)) (λ same. cc)
@@ -65,15 +66,15 @@ returns-in_err-lines g c =
     let left = g.S.Source.left c.args.source.now in
     let rest = g.S.Source.left c.read_columns.new.source in
     let here = MatchOption-at_some _ _ _ c.in-Some.is read.2 in
-    let are = columns_of c.in_ok-grid.grid (cells_of o.grid) sheets sheets (map (λ feed. feed.items) feeds) c.in_ok-grid.ensures.ok refl here.1 in
-    let size = sized_as c.in_ok-grid.grid (cells_of o.grid) sheets sheets true c.in_ok-grid.ensures.ok refl (sym here.0) in
+    let are = columns_of c.in_ok-grid.grid (cells_of o.grid) sheets (map (λ feed. feed.items) feeds) c.in_ok-grid.ensures.ok here.1 in
+    let size = sized_as c.in_ok-grid.grid (cells_of o.grid) sheets true c.in_ok-grid.ensures.ok (sym here.0) in
     let why = images_unanswered (λ feed. feed.items) o sheets feeds left rest fault (c.in_ok-grid.ensures.exact.0 refl) read.1
     read.3 size are
     (λ same. c.in_err-lines.ensures.threads (ap Err same)) in
     refused_run (scan_command o) g.S.Source.left g.S.Source.failed g.W.Sink.taken g.W.Sink.failed c.args.source.now c.read_columns.new.source c.args.sink.now
-    c.from_residual-in_err-lines.result (of_answers fault) c.from_residual-in_err-lines.ensures.1 why (answers_no_write fault)
+    c.from_residual-in_err-lines.result (of_answers fault) c.from_residual-in_err-lines.ensures.1 why (answers_told fault).0
     (λ sound. (
-      λ same. absurd (answers_no_read fault same),
+      λ same. absurd ((answers_told fault).1 same),
       λ failed. absurd (never_refused c.in_ok-feeds.field-0 ReadFault ((c.in_ok-feeds.ensures.fault sound).1 failed)),
     ))
 
@@ -87,8 +88,8 @@ returns-in_err-write_all g c =
     let left = g.S.Source.left c.args.source.now in
     let rest = g.S.Source.left c.read_columns.new.source in
     let here = MatchOption-at_some _ _ _ c.in-Some.is read.2 in
-    let are = columns_of c.in_ok-grid.grid (cells_of o.grid) sheets sheets feeds c.in_ok-grid.ensures.ok refl here.1 in
-    let size = sized_as c.in_ok-grid.grid (cells_of o.grid) sheets sheets true c.in_ok-grid.ensures.ok refl (sym here.0) in
+    let are = columns_of c.in_ok-grid.grid (cells_of o.grid) sheets feeds c.in_ok-grid.ensures.ok here.1 in
+    let size = sized_as c.in_ok-grid.grid (cells_of o.grid) sheets true c.in_ok-grid.ensures.ok (sym here.0) in
     let grid = c.in_ok-grid.ensures.exact.0 refl in
     cut_run (scan_command o) g.S.Source.left g.S.Source.failed g.W.Sink.taken g.W.Sink.failed c.args.source.now c.read_columns.new.source c.args.sink.now
     c.write_all.new.sink c.from_residual-in_err-write_all.result c.from_residual-in_err-write_all.ensures.1
@@ -105,8 +106,8 @@ returns g c =
     let sheets = read.0 in
     let feeds = map (λ feed. feed.items) c.in-Some.feeds.items in
     let here = MatchOption-at_some _ _ _ c.in-Some.is read.2 in
-    let are = columns_of c.in_ok-grid.grid (cells_of o.grid) sheets sheets feeds c.in_ok-grid.ensures.ok refl here.1 in
-    let size = sized_as c.in_ok-grid.grid (cells_of o.grid) sheets sheets true c.in_ok-grid.ensures.ok refl (sym here.0) in
+    let are = columns_of c.in_ok-grid.grid (cells_of o.grid) sheets feeds c.in_ok-grid.ensures.ok here.1 in
+    let size = sized_as c.in_ok-grid.grid (cells_of o.grid) sheets true c.in_ok-grid.ensures.ok (sym here.0) in
     let sent = c.as_bytes.ensures.value ∙ c.as_str.ensures.value in
     let report = subst (λ t. IsReport o.year feeds t) (sym sent) c.in_ok-lines.ensures.report in
     written_run (scan_command o) g.S.Source.left g.S.Source.failed g.W.Sink.taken g.W.Sink.failed c.args.source.now c.read_columns.new.source c.args.sink.now

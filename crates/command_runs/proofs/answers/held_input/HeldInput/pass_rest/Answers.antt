@@ -1,6 +1,6 @@
 -- The pieces that are passed over, one after another, are all that was left; `read_rest` does the same, and keeps them.
 use Rattle.std.proofs.Common.{[], ◌++◌}
-use Rattle.command_runs.proofs.HowRunsEnd.{told_fault}
+use Rattle.command_runs.proofs.ToldFaults.{told_fault}
 use Rattle.command_runs.proofs.answers.TakenAddsUp.{stops_later, takes_as, takes_both, takes_none}
 use Rattle.command_runs.proofs.answers.held_input.HeldInput.pass_rest.Goals as goal
 

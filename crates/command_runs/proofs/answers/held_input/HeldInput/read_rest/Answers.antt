@@ -1,7 +1,7 @@
 -- The pieces that are read, one behind another, are all that was left; `pass_rest` keeps none of them.
 use Rattle.std.proofs.Common.{[], ap, arith, append-nil, append_assoc, drop, refl, sym, ◌++◌, ◌∙◌}
 use Rattle.command_runs.specs.inner.HeldInputs.{held_of}
-use Rattle.command_runs.proofs.HowRunsEnd.{told_fault}
+use Rattle.command_runs.proofs.ToldFaults.{told_fault}
 use Rattle.command_runs.proofs.answers.TakenAddsUp.{stops_later, takes_as, takes_both, takes_none}
 use Rattle.command_runs.proofs.answers.held_input.HeldInput.read_rest.Goals as goal
 

@@ -7,6 +7,7 @@ pub returns-clause-ok : goal.returns-clause-ok
 returns-clause-ok g c = (
   refl,
   refl,
+  refl,
   record {
     events = [];
     were_done = c.requires;

@@ -8,13 +8,13 @@ pub push_replies-requires : goal.push_replies-requires
 push_replies-requires g c =
     let t = turn_of c.args.self.now in
     let was = c.requires in
-    let opened = c.is_open.ensures c.if-not-is_open.false in
+    let opened = c.is_open.ensures.0 c.if-not-is_open.false in
     rw (c.as_slice.ensures.value, c.as_slice-2.ensures.value) (all_ready _ t was.3.come (keeps _ t was.3.come opened) was.4)
 
 pub returns-in-Err-clause-came : goal.returns-in-Err-clause-came
 returns-in-Err-clause-came g c = λ start given brought l even.
     let s = c.args.self.now in
-    let opened = c.is_open.ensures c.if-not-is_open.false in
+    let opened = c.is_open.ensures.0 c.if-not-is_open.false in
     let said = rw (c.as_slice.ensures.value, c.as_slice-2.ensures.value, l.terms) at c.in-Ok.ensures in
     let e = c.in-Err.ensures in
     let w = e.err in
@@ -32,7 +32,7 @@ returns-in-Err-clause-came g c = λ start given brought l even.
 pub returns-in-Ok-write_all-clause-came : goal.returns-in-Ok-write_all-clause-came
 returns-in-Ok-write_all-clause-came g c = λ start given brought l even.
     let s = c.args.self.now in
-    let opened = c.is_open.ensures c.if-not-is_open.false in
+    let opened = c.is_open.ensures.0 c.if-not-is_open.false in
     let said = rw (c.as_slice.ensures.value, c.as_slice-2.ensures.value, l.terms) at c.in-Ok.ensures in
     let e = c.in-Ok-write_all.ensures in
     let w = e.ok in
@@ -51,4 +51,4 @@ returns-in-Ok-write_all-clause-came g c = λ start given brought l even.
 -- memory was refused
 pub returns-in_default-clause-came : goal.returns-in_default-clause-came
 returns-in_default-clause-came g c = λ start given brought l even.
-    took_nothing c.args.self.now c.push_replies.new.text (c.is_open.ensures c.if-not-is_open.false) start given brought l
+    took_nothing c.args.self.now c.push_replies.new.text (c.is_open.ensures.0 c.if-not-is_open.false) start given brought l
