@@ -1,5 +1,5 @@
 -- What `answers/rows.rt` gives to the hub and tells at the end, by the rows that were read (of specs/inner/ServedRows).
-use Rattle.std.proofs.Common.{Err, Global, IfErr, IfOk, IfSome, List, None, Ok, Option, Result, Some, String, [], ap, arith, get_or, length, map, refl, replicate, set, string_bytes, subst, suc, sym, true, zero, ◌+◌, ◌++◌, ◌≡◌, ◌≢◌, ◌∙◌, ◌∷◌, ℕ, Bool}
+use Rattle.std.proofs.Common.{Err, Global, IfErr, IfOk, IfSome, List, None, Ok, Option, Result, Some, String, [], ap, arith, get_or, length, map, refl, replicate, set, string_bytes, subst, suc, sym, true, zero, length-append, ◌+◌, ◌-◌, ◌++◌, ◌<◌, ◌≤◌, ◌≡◌, ◌≢◌, ◌∙◌, ◌∷◌, ℕ, Bool}
 use Rattle.std.specs.Borrow.{MutBor}
 use Rattle.std.specs.Io.KnownBytes.{IsAtEnd}
 use Rattle.std.specs.List.{AllZip, concat, range_with_len}
@@ -25,7 +25,7 @@ use Rattle.command_runs.specs.Runs.{TellsFault}
 use Rattle.command_runs.specs.declared.answers.rows.RowsFault.{RowsFault}
 use Rattle.command_runs.specs.declared.answers.rows.RowsFault.TheVariants as rows_fault
 use Rattle.command_runs.specs.inner.ServedRows.{HasGiven, IsToldOf, is_ended}
-use Rattle.csv_records.specs.input.Records.{AreItems, Fields, Refuses, Takes, records_of}
+use Rattle.csv_records.specs.input.Records.{AreItems, Fields, Refuses, Takes, most_bytes, records_of}
 use Rattle.csv_records.specs.lanes.Feeds.{LaneRow, feed_of, feeds_of, lanes_meaning}
 use Rattle.command_runs.specs.declared.answers.row_reader.Course.{Course}
 use Rattle.command_runs.specs.declared.answers.row_reader.Course.TheVariants as course
@@ -118,6 +118,10 @@ module _ {S : Type 0} (left : S → Option (List ℕ)) (failed : S → Bool) (la
   pub same_source : (items : List LaneRow) → GaveRows left failed lanes lent r items → r.input.source.ghost_name ≡ lent.ghost_name
   same_source items gave = source_by_course gave.0 r.course gave.2
 
+  -- each of them was counted, and there is at most one more than an input may have bytes
+  pub rows_counted : (items : List LaneRow) → GaveRows left failed lanes lent r items → (r.count ≡ length items) × (r.count ≤ most_bytes + 1)
+  rows_counted items gave = (omega (arith, AllZip-long _ gave.0 items gave.1.means, gave.1.count), omega (arith, gave.1.count, gave.1.few))
+
   -- whether a next row was given or not, some rows were
   pub gave_any : (items : List LaneRow) (next : Option LaneRow) → GaveNext left failed lanes lent next r items → (all : List LaneRow) × GaveRows left failed lanes lent r all
   gave_any items None gave = (items, gave)
@@ -159,20 +163,25 @@ module _ {S : Type 0} (left : S → Option (List ℕ)) (failed : S → Bool) (la
     pub rows_at_end : HasReadRows left failed lent r gave.0
     rows_at_end = subst (λ k. HasReadTo left failed lent r k gave.0) is gave.2
 
-    -- each record that was counted gave a row
-    long : length items ≡ r.count
-    long = omega (arith, AllZip-long _ gave.0 items gave.1.means, gave.1.count)
-
     -- if there is none, the report is empty
     pub told_nothing : (text : String Global) → string_bytes text ≡ [] → r.count ≡ 0 → IsToldOf left failed lanes lent r (Ok text)
     told_nothing text empty none =
-        told_as gave.0 (Ok text) rows_at_end (λ e. cc e) (empty, taken_at_end items (λ items. items ≡ []) (ap is_ended is) gave (nil_from_length items (long ∙ none))) tt
+        told_as gave.0 (Ok text) rows_at_end (λ e. cc e) (empty, taken_at_end items (λ items. items ≡ []) (ap is_ended is) gave (nil_from_length items (sym (rows_counted items gave).0 ∙ none))) tt
 
     -- if there is one, a thread may be why it has no answer
     pub told_thread : (r.count ≡ 0 → ⊥) → IsToldOf left failed lanes lent r (Err rows_fault.NoThread)
     told_thread some =
         told_as gave.0 (Err rows_fault.NoThread) rows_at_end (λ e. cc e) tt
-        (taken_at_end items (λ items. items ≢ []) (ap is_ended is) gave (λ none. some (sym long ∙ ap length none)))
+        (taken_at_end items (λ items. items ≢ []) (ap is_ended is) gave (λ none. some ((rows_counted items gave).0 ∙ ap length none)))
+
+-- with each row that is given, fewer are left
+pub fewer_left : {S : Type 0} (left : S → Option (List ℕ)) (failed : S → Bool) (lanes : ℕ) (lent : MutBor S) (r s : RowReader S) (items : List LaneRow)
+    (row : LaneRow) → GaveRows left failed lanes lent r items → GaveNext left failed lanes lent (Some row) s items
+    → most_bytes + 2 - s.count < most_bytes + 2 - r.count
+fewer_left left failed lanes lent r s items row was next =
+    let old = rows_counted left failed lanes lent r items was in
+    let new = rows_counted left failed lanes lent s (items ++ row ∷ []) next.1 in
+    omega (arith, old.0, new.0, new.1, length-append items (row ∷ []))
 
 -- ---- what was served, and what `next` gives
 

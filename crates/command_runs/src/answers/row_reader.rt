@@ -231,15 +231,12 @@ impl<'a, S: Source> RowReader<'a, S> {
         requires { WasRead S.left S.failed self.old }
         ensures same_reference { self.new.input.source.ghost_name ≡ self.old.input.source.ghost_name }
         ensures passes { PassesRows S.left S.failed self.old self.new }
+        ensures over { is_over self.new.course ≡ true }
     {
         let mut pool = RowPool::none(self.alloc);
-        // A bound that is never reached, as in `read_records` of csv_records: there is at most one record more than
-        // bytes. The contract does not say that all are read; `tell_fault` looks at where the reading stands.
-        'rows: for _ in 0..usize::MAX {
-            match self.next_row(&mut pool) {
-                Some((_, row)) => pool.put_back(row),
-                None => break,
-            }
+        // It ends, since there is at most one record more than bytes.
+        'rows: while let Some((_, row)) = self.next_row(&mut pool) {
+            pool.put_back(row);
         }
     }
 

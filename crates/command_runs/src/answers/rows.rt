@@ -1,8 +1,9 @@
 //! Rows of records that are read as workers answer them.
-ghost use Rattle.std.specs.Prelude.{◌≡◌, IfErr, IfOk, string_bytes};
+ghost use Rattle.std.specs.Prelude.{◌≡◌, IfErr, IfOk, string_bytes, true};
 ghost use Rattle.hub_core.specs.Serving.{AreSeatCounts};
 ghost use Rattle.command_runs.specs.Runs.{TellsFault};
 ghost use Rattle.command_runs.specs.answers.Rows.{AnswersRows, RefusesRows};
+ghost use Rattle.command_runs.specs.inner.RowReaders.{is_over};
 ghost use Rattle.command_runs.specs.inner.ServedRows.{AreAnswered, BeginsUnanswered, TellsOfRows};
 
 use crate::answers::held_input::make_chunk;
@@ -115,6 +116,7 @@ fn tell_fault<S: Source>(
     rows: &RowReader<'_, S>,
     fault: AnswerFault,
 ) -> Result<String, RowsFault>
+    requires { is_over rows.now.course ≡ true }
     ensures { TellsOfRows S.left S.failed rows.now result }
 {
     match rows.course {
@@ -124,10 +126,7 @@ fn tell_fault<S: Source>(
             AnswerFault::NoThread => Err(RowsFault::NoThread),
             AnswerFault::NoMemory => Err(RowsFault::Records(RecordsFault::NoMemory)),
         },
-        // Not met: all were read, though the contract of `pass_rows` does not say so.
-        Course::Lines | Course::LastLine | Course::Csv(_) => {
-            Err(RowsFault::Records(RecordsFault::NoMemory))
-        }
+        Course::Lines | Course::LastLine | Course::Csv(_) => unreachable!(),
     }
 }
 

@@ -1,8 +1,4 @@
 -- Once all rows are read, what is told is true of the source.
-use Rattle.std.proofs.Common.{inl, inr, subst, ◌≡◌}
-use Rattle.command_runs.specs.inner.RowReaders.{HasReadTo}
-use Rattle.command_runs.specs.declared.answers.row_reader.Course.{Course}
-use Rattle.command_runs.specs.declared.answers.row_reader.Course.TheVariants as course
 use Rattle.command_runs.proofs.answers.RowsAsRead.{rows_at_end, told_memory, told_nothing, told_refused, told_thread}
 use Rattle.command_runs.proofs.answers.rows.tell_fault.Goals as goal
 
@@ -21,16 +17,3 @@ returns-in-NoThread g c = λ lanes lent items gave.
 pub returns-in-NoMemory : goal.returns-in-NoMemory
 returns-in-NoMemory g c = λ lanes lent items gave.
     told_memory _ _ lanes lent c.args.rows.now gave.0 (rows_at_end _ _ lanes lent c.args.rows.now items c.in-Ended.is gave)
-
-pub returns-in-Lines : goal.returns-in-Lines
-returns-in-Lines g c = λ lanes lent items gave.
-    let r = c.args.rows.now in
-    let come : (k : Course) → r.course ≡ k → HasReadTo g.S.Source.left g.S.Source.failed lent r k gave.0 =
-    λ k e. subst (λ k. HasReadTo g.S.Source.left g.S.Source.failed lent r k gave.0) e gave.2 in
-    told_memory _ _ lanes lent r gave.0 (elim c.in-Lines.is [
-      | inl e ↦ come course.Lines e
-      | inr f ↦ elim f [
-        | inl e ↦ come course.LastLine e
-        | inr h ↦ come (course.Csv h.0) h.1
-      ]
-    ])

@@ -1,10 +1,7 @@
 -- Each row that is passed over was given, of the same source.
-use Rattle.std.proofs.Common.{List, subst, sym, ◌∙◌}
-use Rattle.csv_records.specs.lanes.Feeds.{LaneRow}
-use Rattle.command_runs.specs.inner.RowReaders.{GaveRows}
-use Rattle.command_runs.proofs.answers.RowsAsRead.{gave_any, same_source}
+use Rattle.std.proofs.Common.{sym, ◌∙◌}
+use Rattle.command_runs.proofs.answers.RowsAsRead.{fewer_left, gave_any, same_source}
 use Rattle.command_runs.proofs.answers.row_reader.RowReader.pass_rows.Goals as goal
-use Rattle.command_runs.proofs.answers.row_reader.RowReader.pass_rows.Goals.{else-rows-test, then-rows-test+in-None}
 
 pub rows-init : goal.rows-init
 rows-init g c = λ lanes lent items gave. (items, gave)
@@ -20,19 +17,19 @@ rows-preserved g c = λ lanes lent items gave.
     let was = c.rows.invariant lanes lent items gave in
     gave_any _ _ lanes lent c.next_row.new.self was.0 c.next_row.result (c.next_row.ensures.gives lanes lent was.0 was.1)
 
+pub rows-smaller : goal.rows-smaller
+rows-smaller g c =
+    let (lanes, lent, items, gave) = c.requires in
+    let was = c.rows.invariant lanes lent items gave in
+    fewer_left _ _ lanes lent c.rows.self c.next_row.new.self was.0 _ was.1 (rw c.in-Some.is at (c.next_row.ensures.gives lanes lent was.0 was.1))
+
 pub returns-clause-passes : goal.returns-clause-passes
 returns-clause-passes g c = λ lanes lent items gave.
     let was = c.rows.invariant lanes lent items gave in
-    let passed : (more : List LaneRow) × GaveRows g.S.Source.left g.S.Source.failed lanes lent c.rows-test.self more = elim c.rows-test.branch [
-      | else-rows-test w ↦ subst (λ r. (more : List LaneRow) × GaveRows g.S.Source.left g.S.Source.failed lanes lent r more) (sym w.self-is) was
-      | then-rows-test+in-None w ↦
-          subst (λ r. (more : List LaneRow) × GaveRows g.S.Source.left g.S.Source.failed lanes lent r more) (sym w.self-is)
-          (gave_any _ _ lanes lent w.next_row.new.self was.0 w.next_row.result (w.next_row.ensures.gives lanes lent was.0 was.1))
-    ] in
-    passed
+    gave_any _ _ lanes lent c.next_row.new.self was.0 c.next_row.result (c.next_row.ensures.gives lanes lent was.0 was.1)
 
 pub returns-clause-same_reference : goal.returns-clause-same_reference
 returns-clause-same_reference g c =
     let (lanes, lent, items, gave) = c.requires in
     let now = returns-clause-passes g c lanes lent items gave in
-    same_source _ _ lanes lent c.rows-test.self now.0 now.1 ∙ sym (same_source _ _ lanes lent c.args.self.now items gave)
+    same_source _ _ lanes lent c.next_row.new.self now.0 now.1 ∙ sym (same_source _ _ lanes lent c.args.self.now items gave)
