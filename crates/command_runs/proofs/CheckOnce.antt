@@ -7,13 +7,12 @@ use Rattle.digits_core.proofs.Weights.{weighted-last}
 use Rattle.digits_core.specs.Payloads.{payload_fault}
 use Rattle.digits_core.specs.declared.fault.DigitFault.{DigitFault}
 use Rattle.element_core.specs.Elements.{OneListOrFault, hri}
-use Rattle.element_core.specs.Lines.{IsDigitAnswer, line_of_gtin, line_text}
+use Rattle.element_core.specs.Lines.{IsDigitAnswer, line_text}
 use Rattle.element_core.specs.declared.line.Line.{Line}
 use Rattle.csv_records.specs.check.Checks.{IsLineAs, IsLineBy, check_kind_named, check_meaning, check_report}
 use Rattle.csv_records.specs.input.Records.{AreItems, Fields, records_of}
+use Rattle.csv_records.proofs.OneCheckLine.{one_elements_line, one_upce_line}
 use Rattle.message_core.specs.Spellings.{spelled}
-use Rattle.message_core.proofs.OneMessageLine.{one_elements_line}
-use Rattle.message_core.proofs.UpceDigits.{one_upce_line}
 use Rattle.csv_records.specs.declared.check.answer.CheckKind.{CheckKind}
 use Rattle.csv_records.specs.declared.check.answer.CheckKind.TheVariants as kind
 use Rattle.element_core.specs.Terms.{Terms}
@@ -40,7 +39,7 @@ module _ (one : OneListOrFault) (year : Terms) where
   one_line_by_kind : (k : CheckKind) (text a b : List ℕ) → IsLineAs year k text a → IsLineAs year k text b → a ≡ b
   one_line_by_kind kind.Digit text a b h k = digit_by text (payload_fault text) a b h k
   one_line_by_kind kind.Gtin text a b h k = h ∙ sym k
-  one_line_by_kind kind.Upce text a b h k = one_upce_line line_of_gtin text a b h k
+  one_line_by_kind kind.Upce text a b h k = one_upce_line text a b h k
   one_line_by_kind kind.Text text a b h k = one_elements_line one (codes "hri") hri year (spelled text) a b h k
 
   one_line_by_name : (o : Option CheckKind) (text : List ℕ) (a b : Line) → IsLineBy year o text (Ok a) → IsLineBy year o text (Ok b) → line_text a ≡ line_text b

@@ -2,6 +2,7 @@
 pub mod Decimals
 pub mod FirstFault
 pub mod MessageWidths
+pub mod OneCheckLine
 pub mod Reaching
 pub mod RecordsReadFirst
 mod UpceMessages

@@ -19,6 +19,7 @@ pub mod PairLemmas
 pub mod PairLines
 pub mod PairsApart
 pub mod PieceLemmas
+pub mod Pieces
 pub mod ReadingLines
 pub mod RowsApart
 pub mod Shown

@@ -13,4 +13,5 @@ pub mod Shown
 pub mod Table
 pub mod Terms
 pub mod Times
+pub mod Walked
 pub mod inner

@@ -43,3 +43,24 @@ pub(crate) fn time_of_element(ai: &[u8], value: &[u8]) -> Option<[u8; 3]>
         _ => None,
     }
 }
+
+/// The day and the time of an element, by one look at the table.
+pub(crate) fn named_of_element(
+    ai: &[u8],
+    value: &[u8],
+    year: Year,
+) -> (Option<Date>, Option<[u8; 3]>)
+    ensures day { IsDay result.0 (entry_day year (record { ai = ai.now; value = value.now })) }
+    ensures time { result.1 ≡ entry_time (record { ai = ai.now; value = value.now }) }
+{
+    let Some(family) = family_at(ai) else {
+        return (None, None);
+    };
+    match family.parts {
+        [part] => (
+            day_named_by(part.rule, value, year.reference()),
+            time_named_by(part.rule, value),
+        ),
+        _ => (None, None),
+    }
+}

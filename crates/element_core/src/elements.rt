@@ -47,6 +47,7 @@ impl Model for Elements {
 
 impl Elements {
     ghost use Rattle.element_core.specs.Pairs.{entries_of, list_fault};
+    ghost use Rattle.element_core.specs.Shown.{shown_elements};
     ghost use Rattle.element_core.specs.declared.fault.ElementFault.{ElementFault};
 
     /// The elements of a text, or its first fault (GS1 General Specifications, section 7.8).
@@ -150,6 +151,15 @@ impl Elements {
         ensures printable { IsTrue (is_printable result.items) }
     {
         copied(self.text.as_slice())
+    }
+
+    /// The canonical text where it stands, to walk over by `first_element`.
+    pub fn bytes(&self) -> &[u8]
+        ensures canonical { result.now ≡ canonical self.now.list }
+        ensures elements { shown_elements result.now ≡ self.now.list }
+        ensures few { length result.now ≤ 192 }
+    {
+        self.text.as_slice()
     }
 
     /// The element at an index below the number of elements.

@@ -28,6 +28,7 @@ mod terms;
 mod text;
 mod time;
 mod value;
+mod walk;
 mod year;
 
 pub use element::Element;
@@ -46,4 +47,5 @@ pub use part::{Check, Part, PartFormat, Rule};
 pub use row::{AiRow, ai_row};
 pub use terms::{Terms, Year};
 pub use text::Text;
+pub use walk::{Seen, first_element};
 pub use year::ReferenceYear;

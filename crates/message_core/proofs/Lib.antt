@@ -2,7 +2,7 @@
 mod CodingFacts
 mod LinkFacts
 mod OneKeyPart
-pub mod OneMessageLine
+pub mod OneMessage
 pub mod SpelledUpce
 pub mod TextsCutAtByte
 pub mod UpceDigits

@@ -1,17 +1,14 @@
--- Steps through a Digital Link: its scheme, the qualifiers of its path, its pairs, and their line.
-use Rattle.std.proofs.Common.{◌≡◌, ◌<◌, ◌≤◌, ◌+◌, ◌&&◌, ◌++◌, ◌∷◌, ◌∙◌, List, None, Some, [], ap, append_assoc, arith, drop, false, if◌then◌else◌, length, length-append, nat_le, refl, sym, true, ℕ}
+-- Steps through a Digital Link: its scheme, the qualifiers of its path, its pairs, and what they say.
+use Rattle.std.proofs.Common.{◌≡◌, ◌<◌, ◌≤◌, ◌+◌, ◌&&◌, ◌++◌, ◌∷◌, ◌∙◌, List, None, Option, Some, Result, Err, [], ap, append_assoc, arith, drop, false, if◌then◌else◌, length, length-append, nat_le, refl, sym, true, ℕ}
 use Rattle.std.specs.List.{list_all}
 use Rattle.std.proofs.lemmas.Bool.{and_from, and_parts, both_ways, false_from_ne_true, le-leb, leb-true}
 use Rattle.std.proofs.lemmas.List.{drop_all, drop_more}
 use Rattle.std.proofs.lemmas.List.Folds.{list_all-append}
-use Rattle.digits_core.specs.Refusals.{refusal_words}
-use Rattle.digits_core.specs.declared.refusal.RefusalKind.TheVariants as refusal
 use Rattle.element_core.specs.Elements.{Entry}
-use Rattle.element_core.specs.Faults.{element_fault_text}
-use Rattle.element_core.specs.Lines.{elements_text}
 use Rattle.element_core.specs.Pairs.{list_fault}
 use Rattle.element_core.specs.declared.fault.ElementFault.{ElementFault}
-use Rattle.element_core.specs.declared.form.Form.{Form}
+use Rattle.element_core.specs.declared.fault.ElementFault.TheVariants.{TooLong}
+use Rattle.message_core.specs.declared.fault.MessageFault.TheVariants.{Elements}
 use Rattle.message_core.specs.Keys.{place_by}
 use Rattle.element_core.specs.Terms.{Terms}
 use Rattle.message_core.specs.Links.{begins_any_case, entries_said, entries_said_by, fits, fits_all, fits_entry, follow_all, follow_by}
@@ -63,14 +60,8 @@ both_put none first all path query new one both few fit =
     let same : all ≡ path ++ query = both ∙ ap (λ l. l ++ query) (one ∙ ap (λ l. l ++ path) new) in
     (same, ap fits (sym same) ∙ fits_by all few fit)
 
--- ---- lines
+-- ---- what is said
 
-module _ (word : List ℕ) (f : Form) (year : Terms) (es : List Entry) (fit : fits es ≡ true) where
-  said_by : entries_said word f year es ≡ entries_said_by word f es (list_fault year es)
-  said_by = ap (λ b. if b then entries_said_by word f es (list_fault year es) else refusal_words refusal.TooLong) fit
-
-  pub fitting_said : list_fault year es ≡ None → entries_said word f year es ≡ word ++ (32 ∷ elements_text f es)
-  fitting_said none = said_by ∙ ap (entries_said_by word f es) none
-
-  pub fitting_refused : (fault : ElementFault) → list_fault year es ≡ Some fault → entries_said word f year es ≡ element_fault_text fault
-  fitting_refused fault is = said_by ∙ ap (entries_said_by word f es) is
+module _ (year : Terms) (es : List Entry) (fit : fits es ≡ true) where
+  pub fitting : (o : Option ElementFault) → list_fault year es ≡ o → entries_said year es ≡ entries_said_by es o
+  fitting o is = ap (λ b. if b then entries_said_by es (list_fault year es) else Err (Elements TooLong)) fit ∙ ap (entries_said_by es) is

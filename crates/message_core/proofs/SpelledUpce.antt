@@ -1,5 +1,5 @@
 -- A UPC-E behind `]E0` has no blank at its end, and says its GTIN: the law `upce_is_expanded`.
-use Rattle.std.proofs.Common.{◌≡◌, ◌-◌, ◌+◌, ◌<◌, ◌≤◌, ◌++◌, ◌∙◌, ◌∷◌, List, None, [], ap, arith, false, get_or, inl, length, length-append, lit<, lit≤, nat_le, refl, sym, ℕ}
+use Rattle.std.proofs.Common.{◌≡◌, ◌-◌, ◌+◌, ◌<◌, ◌≤◌, ◌++◌, ◌∙◌, ◌∷◌, List, None, Some, [], ap, arith, false, get_or, length, length-append, lit<, lit≤, nat_le, refl, sym, ℕ}
 use Rattle.std.specs.Prelude.{codes}
 use Rattle.std.specs.Char.{is_ascii_whitespace}
 use Rattle.std.specs.Int.{is_in_range}
@@ -14,6 +14,8 @@ use Rattle.element_core.specs.Elements.{gtin_entry}
 use Rattle.element_core.specs.Terms.{Terms}
 use Rattle.message_core.specs.Laws.{MessageSays, UpceIsExpanded}
 use Rattle.message_core.specs.Upce.{system_fault, upce_fault}
+use Rattle.message_core.specs.declared.head.Head.TheVariants as head
+use Rattle.message_core.specs.declared.symbology.Symbology.TheVariants as symbology
 use Rattle.message_core.proofs.UpceDigits.{by_six}
 
 -- a digit is no blank
@@ -46,10 +48,10 @@ no_fault a b c d e f g are =
 expanded : (year : Terms) (gtin : List ℕ) (check : ℕ) → (48 ≤ check) × (check < 58) → (a b c d e f : ℕ) → AreAsciiDigits (a ∷ b ∷ c ∷ d ∷ e ∷ f ∷ [])
     → IsUpceOf (digits_of (a ∷ b ∷ c ∷ d ∷ e ∷ f ∷ [])) (check - 48) gtin
     → MessageSays year (codes "]E0" ++ (48 ∷ a ∷ b ∷ c ∷ d ∷ e ∷ f ∷ []) ++ check ∷ []) (codes "]E0") (gtin_entry gtin ∷ [])
-expanded year gtin check range a b c d e f digits is = λ form.
+expanded year gtin check range a b c d e f digits is =
     let said : List ℕ = 48 ∷ a ∷ b ∷ c ∷ d ∷ e ∷ f ∷ check ∷ [] in
     let are : AreAsciiDigits said = ((lit≤ tt, lit< tt), digits-append (a ∷ b ∷ c ∷ d ∷ e ∷ f ∷ []) (check ∷ []) digits (range, tt)) in
-    (codes "]E0" ++ said, no_end said (omega arith) are, inl (gtin, no_fault a b c d e f check are, is, refl))
+    (Some (head.Symbology symbology.EanUpc), (codes "]E0" ++ said, no_end said (omega arith) are, refl, (gtin, no_fault a b c d e f check are, is, refl)), refl)
 
 pub upce_is_expanded : UpceIsExpanded
 upce_is_expanded year six gtin check digits range is =

@@ -1,15 +1,17 @@
--- The digits of a UPC-E have one line, and stand for a GTIN of 14 digits.
-use Rattle.std.proofs.Common.{◌≡◌, ◌<◌, ◌==◌, ◌+◌, ◌-◌, ◌∙◌, ◌∷◌, Bool, List, None, Some, [], ap, arith, false, if◌then◌else◌, inl, inr, length, length-append, lit<, nat_le, refl, replicate, subst, sym, true, ℕ}
+-- The digits of a UPC-E say one thing, and stand for a GTIN of 14 digits.
+use Rattle.std.proofs.Common.{◌≡◌, ◌<◌, ◌==◌, ◌+◌, ◌-◌, ◌∙◌, ◌∷◌, Bool, List, None, Some, Result, Ok, Err, [], ap, arith, false, if◌then◌else◌, inl, inr, length, length-append, lit<, nat_le, refl, replicate, subst, sym, true, ℕ}
 use Rattle.std.proofs.lemmas.List.{length-replicate}
 use Rattle.digits_core.specs.Digits.{AreDigits, padded}
-use Rattle.digits_core.specs.Faults.{digit_fault_text}
 use Rattle.digits_core.specs.Upce.{IsUpceOf, upce_expanded}
 use Rattle.digits_core.specs.declared.fault.DigitFault.{DigitFault}
 use Rattle.digits_core.specs.declared.fault.DigitFault.TheVariants as digits
 use Rattle.digits_core.proofs.Suppression.{expanded_shape}
-use Rattle.message_core.specs.Upce.{IsUpceDigits, IsUpceFault, IsUpceLine, upce_fault}
+use Rattle.message_core.specs.Upce.{IsUpceDigits, IsUpceFault, IsUpceSaid, upce_fault}
+use Rattle.element_core.specs.Elements.{Entry, gtin_entry}
+use Rattle.message_core.specs.declared.fault.MessageFault.{MessageFault}
+use Rattle.message_core.specs.declared.fault.MessageFault.TheVariants.{Digits, Elements, Kind}
 
--- ---- one line
+-- ---- one answer
 
 -- digits that stand for a GTIN are not refused
 pub said_not_refused : (text gtin : List ℕ) (f : DigitFault) → upce_fault text ≡ None → IsUpceDigits text gtin → IsUpceFault text f → ⊥
@@ -28,11 +30,18 @@ one_fault text (digits.NotDigit p) digits.CheckDigit h k = cc (h, k.0)
 one_fault text (digits.NotDigit p) digits.Length h k = cc (h, k)
 one_fault text (digits.NotDigit p) (digits.NotDigit q) h k = cc (h, k)
 
-pub one_upce_line : (said : List ℕ → List ℕ) (text a b : List ℕ) → IsUpceLine said text a → IsUpceLine said text b → a ≡ b
-one_upce_line said text a b (inl (g, none, is, line)) (inl (o, also, it, other)) = line ∙ (ap said (is.number ∙ sym it.number) ∙ sym other)
-one_upce_line said text a b (inl (g, none, is, line)) (inr (f, because, other)) = absurd (said_not_refused text g f none is because)
-one_upce_line said text a b (inr (f, because, line)) (inl (g, none, is, other)) = absurd (said_not_refused text g f none is because)
-one_upce_line said text a b (inr (f, because, line)) (inr (g, also, other)) = line ∙ (ap digit_fault_text (one_fault text f g because also) ∙ sym other)
+pub one_upce : (text : List ℕ) (a b : Result (List Entry) MessageFault) → IsUpceSaid text a → IsUpceSaid text b → a ≡ b
+one_upce text (Ok a) (Ok b) (g, none, is, list) (o, also, it, other) =
+    ap Ok (list ∙ ap (λ n. gtin_entry n ∷ []) (is.number ∙ sym it.number) ∙ sym other)
+one_upce text (Ok a) (Err (Digits f)) (g, none, is, list) k = absurd (said_not_refused text g f none is k)
+one_upce text (Err (Digits f)) (Ok b) h (g, none, is, list) = absurd (said_not_refused text g f none is h)
+one_upce text (Err (Digits f)) (Err (Digits g)) h k = ap (λ d. Err (Digits d)) (one_fault text f g h k)
+one_upce text (Err (Elements f)) b h k = absurd h
+one_upce text (Err Kind) b h k = absurd h
+one_upce text (Ok a) (Err (Elements f)) h k = absurd k
+one_upce text (Ok a) (Err Kind) h k = absurd k
+one_upce text (Err (Digits d)) (Err (Elements f)) h k = absurd k
+one_upce text (Err (Digits d)) (Err Kind) h k = absurd k
 
 -- ---- a GTIN of 14 digits
 

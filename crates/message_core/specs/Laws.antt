@@ -1,29 +1,36 @@
 -- What the definitions of messages and of Digital Links say together.
-use Rattle.std.specs.Prelude.{◌≡◌, ◌↔◌, ◌⊎◌, ◌≤◌, ◌<◌, ◌-◌, ◌+◌, ◌++◌, ℕ, true, List, [], ◌∷◌, Some, codes}
+use Rattle.std.specs.Prelude.{◌≡◌, ◌↔◌, ◌⊎◌, ◌≤◌, ◌<◌, ◌-◌, ◌+◌, ◌++◌, ℕ, true, List, [], ◌∷◌, Option, Some, Result, Ok, Err, codes}
 use Rattle.digits_core.specs.Digits.{AreAsciiDigits, digits_of}
 use Rattle.digits_core.specs.Upce.{IsUpceOf}
 use Rattle.element_core.specs.Elements.{Entry, gtin_entry, pairs_text}
-use Rattle.element_core.specs.Lines.{elements_text}
 use Rattle.element_core.specs.declared.form.Form.{Form}
 use Rattle.element_core.specs.declared.form.Form.TheVariants.{Pairs}
 use Rattle.message_core.specs.Keys.{is_key, place_by}
 use Rattle.message_core.specs.Links.{key_part}
 use Rattle.element_core.specs.Terms.{Terms}
-use Rattle.message_core.specs.Messages.{IsMessageLine}
+use Rattle.message_core.specs.Faults.{message_fault_text}
+use Rattle.message_core.specs.Messages.{IsMessage, IsMessageLine, Outcome, word_by}
+use Rattle.message_core.specs.declared.fault.MessageFault.{MessageFault}
+use Rattle.message_core.specs.declared.head.Head.{Head}
 
 -- ---- messages
 
--- a message has one line
+-- a message says one thing
+abbrev pub OneMessage : Type 0
+OneMessage = (year : Terms) (text : List ℕ) (head other : Option Head) (told more : Outcome) → IsMessage year text head told → IsMessage year text other more
+    → (head ≡ other) × (told ≡ more)
+
+-- and so it has one line
 abbrev pub OneMessageLine : Type 0
 OneMessageLine = (f : Form) (year : Terms) (text line other : List ℕ) → IsMessageLine f year text line → IsMessageLine f year text other → line ≡ other
 
--- a message says these elements behind this word: each form of its line is these two
+-- a message says these elements behind this identifier, or `-`
 abbrev pub MessageSays : Terms → List ℕ → List ℕ → List Entry → Type 0
-MessageSays year text word es = (f : Form) → IsMessageLine f year text (word ++ (32 ∷ elements_text f es))
+MessageSays year text word es = (head : Option Head) × IsMessage year text head (Ok es) × (word ≡ word_by head)
 
--- a message is refused by this line: it has no other form
+-- a message is refused by this line
 abbrev pub IsRefusedBy : Terms → List ℕ → List ℕ → Type 0
-IsRefusedBy year text line = (f : Form) → IsMessageLine f year text line
+IsRefusedBy year text line = (head : Option Head) × (fault : MessageFault) × IsMessage year text head (Err fault) × (line ≡ message_fault_text fault)
 
 -- messages with one line of pairs say the same elements behind the same word, or are refused alike
 abbrev pub PairsSayElements : Type 0

@@ -1,4 +1,5 @@
 pub mod Coding
+pub mod Faults
 pub mod Heads
 pub mod Keys
 pub mod Laws

@@ -1,16 +1,14 @@
 -- Digital Links: URIs that carry elements (GS1 Digital Link: URI syntax).
-use Rattle.std.specs.Prelude.{◌==◌, ◌&&◌, ◌||◌, ◌++◌, ◌+◌, ◌-◌, not, ℕ, Bool, true, false, List, [], ◌∷◌, Option, Some, None, codes, drop, take, length, replicate, nat_le, option_map, slice_index, if◌then◌else◌}
+use Rattle.std.specs.Prelude.{◌==◌, ◌&&◌, ◌||◌, ◌++◌, ◌+◌, ◌-◌, not, ℕ, Bool, true, false, List, [], ◌∷◌, Option, Some, None, Result, Ok, Err, codes, drop, take, length, replicate, nat_le, option_map, slice_index, if◌then◌else◌}
 use Rattle.std.specs.Char.{is_ascii_digit, is_ascii_graphic, to_ascii_lowercase}
 use Rattle.std.specs.List.{after_first, before_first, list_all, slice_split}
 use Rattle.std.specs.Str.{bytes_eq}
-use Rattle.digits_core.specs.Refusals.{refusal_words}
-use Rattle.digits_core.specs.declared.refusal.RefusalKind.TheVariants as refusal
 use Rattle.element_core.specs.Elements.{Entry}
-use Rattle.element_core.specs.Faults.{element_fault_text}
-use Rattle.element_core.specs.Lines.{elements_text}
 use Rattle.element_core.specs.Pairs.{list_fault}
 use Rattle.element_core.specs.declared.fault.ElementFault.{ElementFault}
-use Rattle.element_core.specs.declared.form.Form.{Form}
+use Rattle.element_core.specs.declared.fault.ElementFault.TheVariants.{TooLong}
+use Rattle.message_core.specs.declared.fault.MessageFault.{MessageFault}
+use Rattle.message_core.specs.declared.fault.MessageFault.TheVariants.{Elements, Kind}
 use Rattle.message_core.specs.Coding.{decoded, is_coded}
 use Rattle.element_core.specs.Terms.{Terms}
 use Rattle.message_core.specs.Keys.{is_key, place_by}
@@ -141,7 +139,7 @@ link_entries text =
     if is_uri text then option_map (λ part. path_entries part ++ query_entries (parameters (query_of text))) (key_part (segments (path_of text)))
     else None
 
--- ---- lines
+-- ---- what is said
 
 -- no more than 48 entries, and none of more than 192 bytes: others fit no element string
 abbrev pub fits_entry : Entry → Bool
@@ -153,19 +151,18 @@ fits_all es = list_all fits_entry es
 abbrev pub fits : List Entry → Bool
 fits es = nat_le (length es) 48 && fits_all es
 
--- the line of elements by their fault: a word and the elements, or the fault
-abbrev pub entries_said_by : List ℕ → Form → List Entry → Option ElementFault → List ℕ
-entries_said_by word f es None = word ++ (32 ∷ elements_text f es)
-entries_said_by word f es (Some fault) = element_fault_text fault
+-- elements by their fault
+abbrev pub entries_said_by : List Entry → Option ElementFault → Result (List Entry) MessageFault
+entries_said_by es None = Ok es
+entries_said_by es (Some fault) = Err (Elements fault)
 
-abbrev pub entries_said : List ℕ → Form → Terms → List Entry → List ℕ
-entries_said word f year es =
-    if fits es then entries_said_by word f es (list_fault year es) else refusal_words refusal.TooLong
+abbrev pub entries_said : Terms → List Entry → Result (List Entry) MessageFault
+entries_said year es = if fits es then entries_said_by es (list_fault year es) else Err (Elements TooLong)
 
--- the line of a URI: its elements as pairs, or why it has none
-abbrev pub link_said_by : List ℕ → Form → Terms → Option (List Entry) → List ℕ
-link_said_by word f year None = refusal_words refusal.Kind
-link_said_by word f year (Some es) = entries_said word f year es
+-- a URI: its elements, or why it has none
+abbrev pub link_said_by : Terms → Option (List Entry) → Result (List Entry) MessageFault
+link_said_by year None = Err Kind
+link_said_by year (Some es) = entries_said year es
 
-abbrev pub link_said : List ℕ → Form → Terms → List ℕ → List ℕ
-link_said word f year text = link_said_by word f year (link_entries text)
+abbrev pub link_said : Terms → List ℕ → Result (List Entry) MessageFault
+link_said year text = link_said_by year (link_entries text)

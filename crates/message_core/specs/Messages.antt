@@ -1,68 +1,88 @@
--- The lines that answer messages of scanners.
-use Rattle.std.specs.Prelude.{◌≡◌, ◌==◌, ◌++◌, ℕ, Bool, true, false, List, [], ◌∷◌, Option, Some, None, codes, drop, length, if◌then◌else◌}
+-- What messages of scanners say, and their lines.
+use Rattle.std.specs.Prelude.{◌≡◌, ◌==◌, ◌++◌, ℕ, Bool, true, false, List, [], ◌∷◌, Option, Some, None, Result, Ok, Err, codes, drop, length, if◌then◌else◌}
 use Rattle.std.specs.Str.{IsTrimAsciiEnd}
 use Rattle.digits_core.specs.Digits.{digits_of, padded}
-use Rattle.digits_core.specs.Faults.{digit_fault_text}
 use Rattle.digits_core.specs.Gtins.{gtin_fault}
-use Rattle.digits_core.specs.Refusals.{refusal_words}
 use Rattle.digits_core.specs.declared.fault.DigitFault.{DigitFault}
 use Rattle.digits_core.specs.declared.fault.DigitFault.TheVariants.{Length}
-use Rattle.digits_core.specs.declared.refusal.RefusalKind.TheVariants as refusal
-use Rattle.element_core.specs.Elements.{gtin_entry}
-use Rattle.element_core.specs.Lines.{IsElementsLine, elements_text}
+use Rattle.element_core.specs.Elements.{Entry, FirstFault, IsElements, gtin_entry}
+use Rattle.element_core.specs.Lines.{elements_text}
+use Rattle.element_core.specs.Terms.{Terms}
 use Rattle.element_core.specs.declared.form.Form.{Form}
+use Rattle.message_core.specs.Faults.{message_fault_text}
 use Rattle.message_core.specs.Heads.{head_of}
 use Rattle.message_core.specs.Links.{link_said}
 use Rattle.message_core.specs.Spellings.{spelled, without_separator}
 use Rattle.message_core.specs.Symbologies.{identifier_of}
 use Rattle.message_core.specs.Upce.{IsUpceSaid}
+use Rattle.message_core.specs.declared.fault.MessageFault.{MessageFault}
+use Rattle.message_core.specs.declared.fault.MessageFault.TheVariants.{Digits, Elements, Kind}
 use Rattle.message_core.specs.declared.head.Head.{Head}
 use Rattle.message_core.specs.declared.head.Head.TheVariants as head
 use Rattle.message_core.specs.declared.symbology.Symbology.{Symbology}
-use Rattle.element_core.specs.Terms.{Terms}
 use Rattle.message_core.specs.declared.symbology.Symbology.TheVariants as symbology
+pub use Rattle.message_core.specs.Faults.{heard}
 
--- the line of the digits of a GTIN by their fault: a word and the element of AI 01, or why they are none
-abbrev pub gtin_said_by : List ℕ → Form → List ℕ → Option DigitFault → List ℕ
-gtin_said_by word f digits None = word ++ (32 ∷ elements_text f (gtin_entry (padded (digits_of digits)) ∷ []))
-gtin_said_by word f digits (Some fault) = digit_fault_text fault
+-- elements, or why there are none
+abbrev pub Outcome : Type 0
+Outcome = Result (List Entry) MessageFault
 
-abbrev pub gtin_said : List ℕ → Form → List ℕ → List ℕ
-gtin_said word f digits = gtin_said_by word f digits (gtin_fault digits)
+-- the digits of a GTIN, by their fault: the element of AI 01, or why they are none
+abbrev pub gtin_said_by : List ℕ → Option DigitFault → Outcome
+gtin_said_by digits None = Ok (gtin_entry (padded (digits_of digits)) ∷ [])
+gtin_said_by digits (Some fault) = Err (Digits fault)
+
+abbrev pub gtin_said : List ℕ → Outcome
+gtin_said digits = gtin_said_by digits (gtin_fault digits)
 
 -- the same of a symbol that has this many digits
-abbrev pub sized_said : List ℕ → Form → ℕ → List ℕ → List ℕ
-sized_said word f size digits = if length digits == size then gtin_said word f digits else digit_fault_text Length
+abbrev pub sized_said : ℕ → List ℕ → Outcome
+sized_said size digits = if length digits == size then gtin_said digits else Err (Digits Length)
 
 -- the same of an EAN-13, a UPC-A or a UPC-E: 13 or 12 digits, or the eight of a UPC-E, which stand for others
-abbrev pub IsEanUpcBy : Bool → List ℕ → Form → List ℕ → List ℕ → Type 0
-IsEanUpcBy true word f digits line = IsUpceSaid word f digits line
-IsEanUpcBy false word f digits line = line ≡ (if length digits == 14 then digit_fault_text Length else gtin_said word f digits)
+abbrev pub IsEanUpcBy : Bool → List ℕ → Outcome → Type 0
+IsEanUpcBy true digits told = IsUpceSaid digits told
+IsEanUpcBy false digits told = told ≡ (if length digits == 14 then Err (Digits Length) else gtin_said digits)
 
-abbrev pub IsEanUpcSaid : List ℕ → Form → List ℕ → List ℕ → Type 0
-IsEanUpcSaid word f digits line = IsEanUpcBy (length digits == 8) word f digits line
+abbrev pub IsEanUpcSaid : List ℕ → Outcome → Type 0
+IsEanUpcSaid digits told = IsEanUpcBy (length digits == 8) digits told
 
--- the line of an element string: a word and its elements, or its first fault
-abbrev pub IsSaidLine : List ℕ → Form → Terms → List ℕ → List ℕ → Type 0
-IsSaidLine word f year text line = IsElementsLine word (elements_text f) year (spelled (without_separator text)) line
+-- an element string: its elements, or its first fault
+abbrev pub IsStringSaid : Terms → List ℕ → Outcome → Type 0
+IsStringSaid year text (Ok list) = IsElements year (spelled (without_separator text)) list
+IsStringSaid year text (Err (Elements fault)) = FirstFault year (spelled (without_separator text)) fault
+IsStringSaid year text (Err fault) = ⊥
 
--- the line of what a symbol of a symbology says
-abbrev pub IsSymbolLine : Symbology → Form → Terms → List ℕ → List ℕ → Type 0
-IsSymbolLine symbology.EanUpc f year said line = IsEanUpcSaid (identifier_of symbology.EanUpc) f said line
-IsSymbolLine symbology.Ean8 f year said line = line ≡ sized_said (identifier_of symbology.Ean8) f 8 said
-IsSymbolLine symbology.Itf14 f year said line = line ≡ sized_said (identifier_of symbology.Itf14) f 14 said
-IsSymbolLine symbology.LinkDataMatrix f year said line = line ≡ link_said (identifier_of symbology.LinkDataMatrix) f year said
-IsSymbolLine symbology.LinkQrCode f year said line = line ≡ link_said (identifier_of symbology.LinkQrCode) f year said
-IsSymbolLine s f year said line = IsSaidLine (identifier_of s) f year said line
+-- a symbol of a symbology
+abbrev pub IsSymbolSaid : Symbology → Terms → List ℕ → Outcome → Type 0
+IsSymbolSaid symbology.EanUpc year said told = IsEanUpcSaid said told
+IsSymbolSaid symbology.Ean8 year said told = told ≡ sized_said 8 said
+IsSymbolSaid symbology.Itf14 year said told = told ≡ sized_said 14 said
+IsSymbolSaid symbology.LinkDataMatrix year said told = told ≡ link_said year said
+IsSymbolSaid symbology.LinkQrCode year said told = told ≡ link_said year said
+IsSymbolSaid _ year said told = IsStringSaid year said told
 
--- the line of a message by its head; `-` stands for an identifier that was not sent
-abbrev pub IsHeadLine : Form → Terms → List ℕ → Option Head → List ℕ → Type 0
-IsHeadLine f year text (Some (head.Symbology s)) line = IsSymbolLine s f year (drop 3 text) line
-IsHeadLine f year text (Some head.Separator) line = IsSaidLine (codes "-") f year text line
-IsHeadLine f year text (Some head.Digits) line = line ≡ gtin_said (codes "-") f text
-IsHeadLine f year text (Some head.Link) line = line ≡ link_said (codes "-") f year text
-IsHeadLine f year text None line = line ≡ refusal_words refusal.Kind
+-- a message by its head
+abbrev pub IsHeadSaid : Terms → List ℕ → Option Head → Outcome → Type 0
+IsHeadSaid year text (Some (head.Symbology s)) told = IsSymbolSaid s year (drop 3 text) told
+IsHeadSaid year text (Some head.Separator) told = IsStringSaid year text told
+IsHeadSaid year text (Some head.Digits) told = told ≡ gtin_said text
+IsHeadSaid year text (Some head.Link) told = told ≡ link_said year text
+IsHeadSaid year text None told = told ≡ Err Kind
 
--- the line of a message; blanks at its end are skipped
+-- what a message says; blanks at its end are skipped
+abbrev pub IsMessage : Terms → List ℕ → Option Head → Outcome → Type 0
+IsMessage year text head told = (said : List ℕ) × IsTrimAsciiEnd text said × (head ≡ head_of said) × IsHeadSaid year said head told
+
+-- the identifier that was sent; `-` stands for none
+abbrev pub word_by : Option Head → List ℕ
+word_by (Some (head.Symbology s)) = identifier_of s
+word_by _ = codes "-"
+
+-- the line of what is said: the identifier and the elements in a form, or the refusal
+abbrev pub message_text : Option Head → Form → Outcome → List ℕ
+message_text head form (Ok list) = word_by head ++ (32 ∷ elements_text form list)
+message_text head form (Err fault) = message_fault_text fault
+
 abbrev pub IsMessageLine : Form → Terms → List ℕ → List ℕ → Type 0
-IsMessageLine f year text line = (said : List ℕ) × IsTrimAsciiEnd text said × IsHeadLine f year said (head_of said) line
+IsMessageLine form year text line = (head : Option Head) × (told : Outcome) × IsMessage year text head told × (line ≡ message_text head form told)

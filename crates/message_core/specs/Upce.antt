@@ -1,15 +1,14 @@
 -- UPC-E, as scanners send it that do not expand it (GS1 General Specifications, section 5.2.2.4).
-use Rattle.std.specs.Prelude.{◌≡◌, ◌⊎◌, ◌==◌, ◌++◌, ◌-◌, ℕ, List, [], ◌∷◌, Option, Some, None, length, slice_index, slice_range, if◌then◌else◌}
+use Rattle.std.specs.Prelude.{◌≡◌, ◌⊎◌, ◌==◌, ◌++◌, ◌-◌, ℕ, List, [], ◌∷◌, Option, Some, None, Result, Ok, Err, length, slice_index, slice_range, if◌then◌else◌}
 use Rattle.digits_core.specs.Digits.{digits_of}
-use Rattle.digits_core.specs.Faults.{digit_fault_text}
 use Rattle.digits_core.specs.Gtins.{first_other}
 use Rattle.digits_core.specs.Payloads.{not_digits}
 use Rattle.digits_core.specs.Upce.{IsUpceOf}
 use Rattle.digits_core.specs.declared.fault.DigitFault.{DigitFault}
 use Rattle.digits_core.specs.declared.fault.DigitFault.TheVariants as digits
-use Rattle.element_core.specs.Elements.{gtin_entry}
-use Rattle.element_core.specs.Lines.{elements_text}
-use Rattle.element_core.specs.declared.form.Form.{Form}
+use Rattle.element_core.specs.Elements.{Entry, gtin_entry}
+use Rattle.message_core.specs.declared.fault.MessageFault.{MessageFault}
+use Rattle.message_core.specs.declared.fault.MessageFault.TheVariants.{Digits}
 
 -- it is written as the digit 0, six digits and the check digit: why a text is not, if it is not
 abbrev pub system_fault : List ℕ → Option DigitFault → Option DigitFault
@@ -29,12 +28,8 @@ IsUpceFault text digits.CheckDigit = (upce_fault text ≡ None) × ((gtin : List
 IsUpceFault text digits.Length = upce_fault text ≡ Some digits.Length
 IsUpceFault text (digits.NotDigit place) = upce_fault text ≡ Some (digits.NotDigit place)
 
--- the line of UPC-E digits: what is said of the GTIN that they stand for, or why they are refused
-abbrev pub IsUpceLine : (List ℕ → List ℕ) → List ℕ → List ℕ → Type 0
-IsUpceLine said text line =
-    ((gtin : List ℕ) × (upce_fault text ≡ None) × IsUpceDigits text gtin × (line ≡ said gtin))
-    ⊎ ((f : DigitFault) × IsUpceFault text f × (line ≡ digit_fault_text f))
-
--- the same of a message: a word and the element of AI 01
-abbrev pub IsUpceSaid : List ℕ → Form → List ℕ → List ℕ → Type 0
-IsUpceSaid word f text line = IsUpceLine (λ gtin. word ++ (32 ∷ elements_text f (gtin_entry gtin ∷ []))) text line
+-- what UPC-E digits say: the GTIN that they stand for, or why they are refused
+abbrev pub IsUpceSaid : List ℕ → Result (List Entry) MessageFault → Type 0
+IsUpceSaid text (Ok list) = (gtin : List ℕ) × (upce_fault text ≡ None) × IsUpceDigits text gtin × (list ≡ gtin_entry gtin ∷ [])
+IsUpceSaid text (Err (Digits fault)) = IsUpceFault text fault
+IsUpceSaid text (Err fault) = ⊥

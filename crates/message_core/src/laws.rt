@@ -1,8 +1,15 @@
 //! Laws of the definitions: each function does nothing, and its contract is the law.
-ghost use Rattle.message_core.specs.Laws.{KeyPartIs, OneMessageLine, PairsSayElements, UpceIsExpanded};
+ghost use Rattle.message_core.specs.Laws.{KeyPartIs, OneMessage, OneMessageLine, PairsSayElements, UpceIsExpanded};
 
 use digits_core::gtins_are_checked;
 use element_core::{faultless_pairs, gtin_reads, one_list_or_fault, pairs_differ};
+
+/// A message says one thing.
+pub fn one_message()
+    ensures { OneMessage }
+{
+    one_list_or_fault();
+}
 
 /// A message has one line.
 pub fn one_message_line()

@@ -4,20 +4,22 @@
 
 mod coding;
 mod cut;
+mod fault;
 mod head;
 mod key;
 mod laws;
-mod line;
 mod link;
+mod message;
 mod pairs;
 mod path;
 mod spelling;
 mod symbology;
 mod upce;
 
-pub use head::is_message;
-pub use laws::{key_part_is, one_message_line, pairs_say_elements, upce_is_expanded};
-pub use line::message_line;
+pub use fault::MessageFault;
+pub use head::{Head, is_message};
+pub use laws::{key_part_is, one_message, one_message_line, pairs_say_elements, upce_is_expanded};
+pub use message::{Message, message_line, read_message};
 pub use spelling::read_spelled;
 pub use symbology::Symbology;
 pub use upce::read_upce;

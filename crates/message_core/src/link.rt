@@ -2,17 +2,15 @@
 ghost use Rattle.std.specs.Prelude.{◌≡◌, ◌==◌, ◌++◌, not};
 ghost use Rattle.std.specs.Char.{is_ascii_graphic};
 ghost use Rattle.std.specs.List.{list_all};
-ghost use Rattle.digits_core.specs.Refusals.{refusal_words};
-ghost use Rattle.digits_core.specs.declared.refusal.RefusalKind.TheVariants as refusal;
-ghost use Rattle.element_core.specs.Lines.{line_text};
+ghost use Rattle.message_core.specs.Faults.{heard};
 ghost use Rattle.message_core.specs.Links.{begins_any_case, begins_http, begins_https, begins_link, behind_scheme, entries_said, has_host, host_and_path, is_plain, is_plain_name, is_uri, is_written, link_said, parameters, path_entries, path_of, query_entries, query_of, segments, without_slash};
 
 use crate::coding::is_coded;
 use crate::cut::{before, behind, first_part, without_first};
+use crate::fault::MessageFault;
 use crate::pairs::{Pairs, put_path, put_query};
 use crate::path::key_part;
-use digits_core::{Refusal, RefusalKind};
-use element_core::{ElementFault, Elements, Form, Line, Year};
+use element_core::{ElementFault, Elements, Year};
 
 /// Whether a text begins with small letters or other bytes, each letter in any case.
 fn begins_any_case(small: &[u8], text: &[u8]) -> bool
@@ -160,42 +158,29 @@ fn is_uri(text: &[u8]) -> bool
     begins_link(text) && is_written(text) && has_host(text) && is_plain(query_of(text))
 }
 
-/// The line of the elements of a path from its key on and of a query, behind a word.
-fn entries_said(word: &'static str, form: Form, path: &[u8], query: &[u8], year: Year) -> Line
-    ensures { line_text result ≡ entries_said word.now form year (path_entries (segments path.now) ++ query_entries (parameters query.now)) }
+/// What the elements of a path from its key on and of a query say.
+fn entries_said(path: &[u8], query: &[u8], year: Year) -> Result<Elements, MessageFault>
+    ensures { heard result ≡ entries_said year (path_entries (segments path.now) ++ query_entries (parameters query.now)) }
 {
     let mut pairs = Pairs::new();
-    if !put_path(&mut pairs, path) {
-        return Line::refused(ElementFault::TooLong.refusal());
-    }
-    if !put_query(&mut pairs, query) {
-        return Line::refused(ElementFault::TooLong.refusal());
+    if !put_path(&mut pairs, path) || !put_query(&mut pairs, query) {
+        return Err(MessageFault::Elements(ElementFault::TooLong));
     }
     match Elements::of_pairs(pairs.as_slice(), year) {
-        Ok(elements) => Line::of_elements(word, &elements, form),
-        Err(fault) => Line::refused(fault.refusal()),
+        Ok(elements) => Ok(elements),
+        Err(fault) => Err(MessageFault::Elements(fault)),
     }
 }
 
-/// The line of a text that is no message, or no Digital Link where it is to be one.
-pub(crate) fn refused_kind() -> Line
-    ensures { line_text result ≡ refusal_words refusal.Kind }
-{
-    Line::refused(Refusal {
-        kind: RefusalKind::Kind,
-        place: None,
-    })
-}
-
-/// The line of a Digital Link, behind a word: its elements, or why it has none.
-pub(crate) fn link_said(word: &'static str, form: Form, text: &[u8], year: Year) -> Line
-    ensures { line_text result ≡ link_said word.now form year text.now }
+/// What a Digital Link says.
+pub(crate) fn link_said(text: &[u8], year: Year) -> Result<Elements, MessageFault>
+    ensures { heard result ≡ link_said year text.now }
 {
     if !is_uri(text) {
-        return refused_kind();
+        return Err(MessageFault::Kind);
     }
     match key_part(path_of(text)) {
-        Some(path) => entries_said(word, form, path, query_of(text), year),
-        None => refused_kind(),
+        Some(path) => entries_said(path, query_of(text), year),
+        None => Err(MessageFault::Kind),
     }
 }

@@ -1,11 +1,12 @@
 //! UPC-E in the eight digits that stand under the symbol.
 ghost use Rattle.std.specs.Prelude.{◌≡◌, None, length, IfErr, IfNone, IfOk};
 ghost use Rattle.digits_core.specs.Digits.{AreAsciiDigits};
-ghost use Rattle.element_core.specs.Lines.{line_text};
+ghost use Rattle.message_core.specs.Faults.{heard};
 ghost use Rattle.message_core.specs.Upce.{IsUpceDigits, IsUpceFault, IsUpceSaid, upce_fault};
 
+use crate::fault::MessageFault;
 use digits_core::{DigitFault, Gtin, not_digits, upce_expand};
-use element_core::{Elements, Form, Line, Year};
+use element_core::{Elements, Year};
 
 /// Why a text is not the digit 0 and seven digits, if it is not.
 fn upce_fault(text: &[u8]) -> Option<DigitFault>
@@ -40,12 +41,12 @@ pub fn read_upce(text: &[u8]) -> Result<Gtin, DigitFault>
     upce_expand(six, text[7]).ok_or(DigitFault::CheckDigit)
 }
 
-/// The line of the GTIN that a UPC-E stands for, behind a word.
-pub(crate) fn upce_said(word: &'static str, form: Form, digits: &[u8], year: Year) -> Line
-    ensures { IsUpceSaid word.now form digits.now (line_text result) }
+/// What the digits of a UPC-E say: the GTIN that it stands for.
+pub(crate) fn upce_said(digits: &[u8], year: Year) -> Result<Elements, MessageFault>
+    ensures { IsUpceSaid digits.now (heard result) }
 {
     match read_upce(digits) {
-        Ok(gtin) => Line::of_elements(word, &Elements::of_gtin(&gtin, year), form),
-        Err(fault) => Line::refused(fault.refusal()),
+        Ok(gtin) => Ok(Elements::of_gtin(&gtin, year)),
+        Err(fault) => Err(MessageFault::Digits(fault)),
     }
 }

@@ -1,11 +1,13 @@
 -- What `check` answers to a record: a kind and a text.
-use Rattle.std.specs.Prelude.{◌≡◌, ◌++◌, ℕ, List, [], ◌∷◌, Option, Some, None, Result, Ok, Err, flat_map, codes, if◌then◌else◌}
+use Rattle.std.specs.Prelude.{◌≡◌, ◌⊎◌, ◌++◌, ℕ, List, [], ◌∷◌, Option, Some, None, Result, Ok, Err, flat_map, codes, if◌then◌else◌}
 use Rattle.std.specs.Str.{bytes_eq}
+use Rattle.digits_core.specs.Faults.{digit_fault_text}
+use Rattle.digits_core.specs.declared.fault.DigitFault.{DigitFault}
 use Rattle.element_core.specs.Elements.{hri}
 use Rattle.element_core.specs.Lines.{IsDigitLine, IsElementsLine, gtin_line, line_of_gtin, line_text}
 use Rattle.element_core.specs.declared.line.Line.{Line}
 use Rattle.message_core.specs.Spellings.{spelled}
-use Rattle.message_core.specs.Upce.{IsUpceLine}
+use Rattle.message_core.specs.Upce.{IsUpceDigits, IsUpceFault, upce_fault}
 use Rattle.csv_records.specs.input.Records.{Meaning}
 use Rattle.csv_records.specs.declared.check.answer.CheckKind.{CheckKind}
 use Rattle.csv_records.specs.declared.check.answer.CheckKind.TheVariants as kind
@@ -24,11 +26,17 @@ check_kind_named name =
 
 -- ---- the lines that answer records
 
+-- the line of UPC-E digits: the GTIN that they stand for, or why they are refused
+abbrev pub IsUpceLine : List ℕ → List ℕ → Type 0
+IsUpceLine text line =
+    ((gtin : List ℕ) × (upce_fault text ≡ None) × IsUpceDigits text gtin × (line ≡ line_of_gtin gtin))
+    ⊎ ((fault : DigitFault) × IsUpceFault text fault × (line ≡ digit_fault_text fault))
+
 -- the line of a text, as one of this kind
 abbrev pub IsLineAs : Terms → CheckKind → List ℕ → List ℕ → Type 0
 IsLineAs year kind.Digit text line = IsDigitLine text line
 IsLineAs year kind.Gtin text line = line ≡ gtin_line text
-IsLineAs year kind.Upce text line = IsUpceLine line_of_gtin text line
+IsLineAs year kind.Upce text line = IsUpceLine text line
 IsLineAs year kind.Text text line = IsElementsLine (codes "hri") hri year (spelled text) line
 
 -- the line of a text, by the kind that its record names, or the fault of a name of no kind

@@ -1,10 +1,9 @@
 //! What texts are checked as, and the lines that answer them.
 ghost use Rattle.std.specs.Prelude.{◌≡◌, codes};
 ghost use Rattle.element_core.specs.Elements.{hri};
-ghost use Rattle.element_core.specs.Lines.{IsElementsLine, line_of_gtin, line_text};
+ghost use Rattle.element_core.specs.Lines.{IsElementsLine, line_text};
 ghost use Rattle.message_core.specs.Spellings.{spelled};
-ghost use Rattle.message_core.specs.Upce.{IsUpceLine};
-ghost use Rattle.csv_records.specs.check.Checks.{IsLineAs, check_kind_named};
+ghost use Rattle.csv_records.specs.check.Checks.{IsLineAs, IsUpceLine, check_kind_named};
 
 use element_core::{Form, Line, Year, digit_line, gtin_line};
 use message_core::{read_spelled, read_upce};
@@ -37,7 +36,7 @@ pub fn kind_named(name: &[u8]) -> Option<CheckKind>
 
 /// The line of the GTIN that UPC-E digits stand for, or why they stand for none.
 fn upce_line(text: &[u8]) -> Line
-    ensures { IsUpceLine line_of_gtin text.now (line_text result) }
+    ensures { IsUpceLine text.now (line_text result) }
 {
     match read_upce(text) {
         Ok(gtin) => Line::of_gtin(&gtin),

@@ -1,4 +1,4 @@
-use Rattle.message_core.proofs.OneMessageLine.{one_message_line}
+use Rattle.message_core.proofs.OneMessage.{one_message_line}
 use Rattle.message_core.proofs.laws.one_message_line.Goals as goal
 
 pub returns : goal.returns

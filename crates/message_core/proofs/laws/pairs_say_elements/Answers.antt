@@ -1,4 +1,4 @@
-use Rattle.message_core.proofs.OneMessageLine.{pairs_say_elements}
+use Rattle.message_core.proofs.OneMessage.{pairs_say_elements}
 use Rattle.message_core.proofs.laws.pairs_say_elements.Goals as goal
 
 pub returns : goal.returns
