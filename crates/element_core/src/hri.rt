@@ -13,7 +13,7 @@ use digits_core::put_at;
 use std::str::from_utf8_unchecked;
 
 /// ASCII bytes as the text that they are.
-fn ascii_str(bytes: &[u8]) -> &str
+pub(crate) fn ascii_str(bytes: &[u8]) -> &str
     requires { All (λ b. b < 128) bytes.now }
     ensures { result.now ≡ bytes.now }
 {

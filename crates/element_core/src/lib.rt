@@ -41,9 +41,10 @@ pub use laws::{
     pairs_differ, parts_have_one_length, profile_within, read_as_before, reads_pieces,
     timed_elements, year_window,
 };
-pub use line::{Line, digit_line, elements_line, gtin_line};
+pub use line::{Line, digit_line, elements_line, gtin_line, push_gtin_element};
 pub use pairs::Pair;
 pub use part::{Check, Part, PartFormat, Rule};
+pub use reading::push_elements;
 pub use row::{AiRow, ai_row};
 pub use terms::{Terms, Year};
 pub use text::Text;

@@ -8,7 +8,7 @@ ghost use Rattle.element_core.specs.Lines.{IsDigitLine, IsElementsLine, elements
 
 use crate::elements::Elements;
 use crate::form::Form;
-use crate::hri::push_bytes;
+use crate::hri::{ascii_str, push_bytes};
 use crate::reading::push_elements;
 use crate::terms::Year;
 use arrayvec::ArrayString;
@@ -98,6 +98,26 @@ impl Line {
             Line::Refused(why) => write!(text, "{why}"),
         }
     }
+}
+
+/// Appends a word, and the one element of a GTIN in a form: AI 01 and its 14 digits. No line is made of them.
+#[inline]
+pub fn push_gtin_element(
+    word: &str,
+    gtin: &Gtin,
+    form: Form,
+    text: &mut String,
+) -> Result<(), AllocError>
+    ensures text { OnOk result (string_bytes text.new ≡ string_bytes text.old ++ (word.now ++ (32 ∷ elements_text form (gtin_entry gtin.now ∷ [])))) }
+    ensures reads { (year : Terms) → IsElements year (canonical (gtin_entry gtin.now ∷ [])) (gtin_entry gtin.now ∷ []) }
+{
+    let digits = gtin.digits14();
+    text.push_str(word)?;
+    text.push_str(match form {
+        Form::HumanReadable => " (01)",
+        Form::Pairs => " 01=",
+    })?;
+    text.push_str(ascii_str(&digits))
 }
 
 /// The line of the GTIN that 8, 12, 13 or 14 digits show, or why they show none.

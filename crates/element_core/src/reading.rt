@@ -33,7 +33,7 @@ fn push_in_form(line: &mut ArrayString<288>, form: Form, ai: &[u8], value: &[u8]
 }
 
 /// Puts the elements of a text in a form into an empty line, or answers the text's first fault.
-pub(crate) fn push_elements(
+pub fn push_elements(
     line: &mut ArrayString<288>,
     form: Form,
     text: &[u8],

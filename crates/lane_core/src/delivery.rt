@@ -74,11 +74,11 @@ impl Delivery {
     }
 }
 
-/// Reads the job's row, up to the symbol that it shows; ticket, row and year stay.
+/// Reads the job's row, up to the elements of the symbol that it shows; ticket, row and year stay.
 pub fn decode(job: Job) -> Delivery
     ensures { result ≡ job }
 {
     let mut job = job;
-    job.row.read();
+    job.row.read_by(job.year);
     Delivery { job }
 }

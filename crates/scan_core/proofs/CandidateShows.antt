@@ -2,10 +2,9 @@
 use Rattle.std.proofs.Common.{◌≡◌, ℕ, List, length, Option, Some, None, refl, sym, ap, subst, ◌∙◌}
 use Rattle.ean_code.specs.Spelling.{gtin_of}
 use Rattle.ean_code.specs.declared.kind.Kind.{Kind}
-use Rattle.scan_core.specs.declared.symbol.ReadSymbol.{ReadSymbol}
-use Rattle.scan_core.specs.declared.symbol.ReadSymbol.TheVariants.{Number, BadCheckDigit, Characters}
-use Rattle.scan_core.specs.Reading.{IsSymbolAs, ShowsSymbol}
-use Rattle.scan_core.specs.inner.Reading.{symbol_content}
+use Rattle.scan_core.specs.Reading.ReadSymbol.{Number, BadCheckDigit, Characters}
+use Rattle.scan_core.specs.Reading.{IsFound, IsSymbolAs, ReadSymbol, ShowsSymbol}
+use Rattle.scan_core.specs.inner.Reading.{found_of, symbol_content}
 use Rattle.scan_core.specs.declared.carrier.Carrier.{Carrier}
 use Rattle.scan_core.specs.declared.stage.Stage.TheVariants as stages
 use Rattle.scan_core.specs.Row.{IsRow, inner}
@@ -36,6 +35,12 @@ symbol_spells None ms (Characters values) a = (values.start, values.values.items
 
 pub symbol_tells : (runs : List ℕ) (c : Carrier) (s : ReadSymbol) → ShowsSymbol runs c s → Tells runs c (symbol_content s)
 symbol_tells runs c s a = (a.0, a.1, a.2, symbol_spells (kind_of c) a.1 s a.3)
+
+-- what is found of the symbol that a row shows is found in the row
+pub shown_found : (runs : List ℕ) (c : Carrier) (s : ReadSymbol) → ShowsSymbol runs c s → IsFound runs (found_of c s)
+shown_found runs c (Number gtin) a = a
+shown_found runs c BadCheckDigit a = (tt, λ year. (c, symbol_tells runs c BadCheckDigit a))
+shown_found runs c (Characters values) a = a
 
 -- runs that are no modules forwards are none any way
 pub fails_rounding : (runs : List ℕ) (c : Carrier) (N : ℕ) → IsQuiet runs N → ((modules : List ℕ) → Rounds (inner runs) N modules → ⊥)

@@ -6,6 +6,7 @@ pub mod DotFacts
 pub mod EarlierFacts
 pub mod EndFacts
 pub mod FirstFacts
+pub mod KeptFacts
 pub mod KindFacts
 pub mod LengthFacts
 pub mod OneSymbolShown

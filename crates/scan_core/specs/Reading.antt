@@ -10,8 +10,7 @@ use Rattle.scan_core.specs.declared.fault.RowFault.{RowFault}
 use Rattle.scan_core.specs.declared.fault.RowFault.TheVariants.{QuietZone, Modules, Pattern, Code128, Elements}
 use Rattle.scan_core.specs.declared.stage.Stage.{Stage}
 use Rattle.scan_core.specs.declared.stage.Stage.TheVariants as stages
-use Rattle.scan_core.specs.declared.symbol.ReadSymbol.{ReadSymbol}
-use Rattle.scan_core.specs.declared.symbol.ReadSymbol.TheVariants.{Number, BadCheckDigit, Characters}
+use Rattle.code128_code.specs.declared.symbol_values.Values.{Values}
 use Rattle.scan_core.specs.declared.found.Found.{Found}
 use Rattle.scan_core.specs.declared.found.Found.TheVariants as found
 use Rattle.element_core.specs.Terms.{Terms}
@@ -23,14 +22,20 @@ stage_fault stages.QuietZone = QuietZone
 stage_fault stages.Modules = Modules
 stage_fault stages.Pattern = Pattern
 
+-- what a symbol is found to be: one of EAN, UPC or ITF-14, of this GTIN or with a wrong check digit, or one of Code 128, of these values
+pub data ReadSymbol : Type 0 where
+  Number : List ℕ → ReadSymbol
+  BadCheckDigit : ReadSymbol
+  Characters : Values → ReadSymbol
+
 -- the modules, a symbol of this kind or else of Code 128, are found to be this
 abbrev pub IsSymbolAs : Option Kind → List ℕ → ReadSymbol → Type 0
-IsSymbolAs (Some kind) modules (Number gtin) = IsSpelled kind modules (spelled.Found gtin)
-IsSymbolAs (Some kind) modules BadCheckDigit = IsSpelled kind modules spelled.BadCheck
-IsSymbolAs (Some kind) modules (Characters values) = ⊥
-IsSymbolAs None modules (Number gtin) = ⊥
-IsSymbolAs None modules BadCheckDigit = ⊥
-IsSymbolAs None modules (Characters values) = IsCode128Symbol values.start values.values.items values.check modules
+IsSymbolAs (Some kind) modules (ReadSymbol.Number gtin) = IsSpelled kind modules (spelled.Found gtin)
+IsSymbolAs (Some kind) modules ReadSymbol.BadCheckDigit = IsSpelled kind modules spelled.BadCheck
+IsSymbolAs (Some kind) modules (ReadSymbol.Characters values) = ⊥
+IsSymbolAs None modules (ReadSymbol.Number gtin) = ⊥
+IsSymbolAs None modules ReadSymbol.BadCheckDigit = ⊥
+IsSymbolAs None modules (ReadSymbol.Characters values) = IsCode128Symbol values.start values.values.items values.check modules
 
 -- the row shows this symbol of the carrier, one way or the other
 abbrev pub ShowsSymbol : List ℕ → Carrier → ReadSymbol → Type 0
@@ -48,6 +53,6 @@ IsUnread runs fault = IsBeforeText fault × ((year : Terms) → IsRefused runs y
 
 -- this is found in the row: the symbol that it shows, or why it shows none, or a wrong check digit
 abbrev pub IsFound : List ℕ → Found → Type 0
-IsFound runs (found.Number carrier gtin) = ShowsSymbol runs carrier (Number gtin)
-IsFound runs (found.Characters carrier values) = ShowsSymbol runs carrier (Characters values)
+IsFound runs (found.Number carrier gtin) = ShowsSymbol runs carrier (ReadSymbol.Number gtin)
+IsFound runs (found.Characters carrier values) = ShowsSymbol runs carrier (ReadSymbol.Characters values)
 IsFound runs (found.Refused fault) = IsUnread runs fault

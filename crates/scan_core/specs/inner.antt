@@ -4,6 +4,7 @@ pub mod FirstRuns
 pub mod Kept
 pub mod Limits
 pub mod Parts
+pub mod Place
 pub mod Reading
 pub mod Searches
 pub mod Stages

@@ -3,17 +3,17 @@ ghost use Rattle.std.specs.Prelude.{None, Some, ◌≡◌, ◌≢◌, ◌++◌, 
 ghost use Rattle.scan_core.specs.Answers.{IsAnswer};
 ghost use Rattle.scan_core.specs.Lines.{said};
 ghost use Rattle.scan_core.specs.inner.Stages.{Fails, FailsAt};
-ghost use Rattle.scan_core.specs.Reading.{IsFound, IsUnread, ShowsSymbol};
+ghost use Rattle.scan_core.specs.Reading.{IsFound, IsUnread};
 ghost use Rattle.scan_core.specs.Row.{IsRow, inner, runs_fault};
 ghost use Rattle.scan_core.specs.Showing.{HasSize, kind_of};
 
 use crate::carrier::{Candidate, Carrier, fixed_candidate, gs1128_candidate};
 use crate::fault::{RowFault, RunFault};
-use crate::found::Found;
+use crate::found::{Found, push_said};
 use crate::rounding::{is_quiet, round, total_dots};
 use crate::runs::{Runs, inner, runs_fault};
 use crate::stage::{Stage, later};
-use crate::symbol::{ReadSymbol, read_some_way};
+use crate::symbol::read_some_way;
 use arrayvec::ArrayVec;
 use ean_code::Modules;
 use element_core::{Elements, Form, Year};
@@ -33,18 +33,18 @@ pub enum Answer {
     Refused(RowFault),
 }
 
-/// Puts the symbol that the row shows as a candidate into `symbol`, and answers its carrier, or the stage at which
+/// Puts what is found, the symbol that the row shows as a candidate, into its place, or answers the stage at which
 /// the row fails as one. Its runs between the light ends are `total` dots.
 fn try_candidate(
     widths: &[u16],
     total: u32,
     candidate: Candidate,
-    symbol: &mut ReadSymbol,
-) -> Result<Carrier, Stage>
+    found: &mut Found,
+) -> Result<(), Stage>
     requires row { IsRow widths.now }
     requires sum { total ≡ sum (inner widths.now) }
     requires counted { HasSize (kind_of candidate.carrier) (length (inner widths.now)) candidate.count }
-    ensures shown { IfOk result (λ carrier. ShowsSymbol widths.now carrier symbol.new) }
+    ensures found { OnOk result (IsFound widths.now found.new) }
     ensures fails { IfErr result (λ stage. Fails widths.now candidate.carrier candidate.count stage) }
 {
     if !is_quiet(widths, total, candidate.count) {
@@ -55,43 +55,43 @@ fn try_candidate(
         return Err(Stage::Modules);
     }
     let mut modules = Modules::new(rounded);
-    if !read_some_way(candidate.carrier, &mut modules, symbol) {
+    if !read_some_way(candidate.carrier, &mut modules, found) {
         return Err(Stage::Pattern);
     }
-    Ok(candidate.carrier)
+    Ok(())
 }
 
-/// Puts the symbol that the row shows as one of the candidates into `symbol`, and answers its carrier, or the later
+/// Puts what is found, the symbol that the row shows as one of the candidates, into its place, or answers the later
 /// one of the stages at which the row fails as them.
 fn try_both(
     widths: &[u16],
     total: u32,
     fixed: Candidate,
     gs1128: Candidate,
-    symbol: &mut ReadSymbol,
-) -> Result<Carrier, Stage>
+    found: &mut Found,
+) -> Result<(), Stage>
     requires row { IsRow widths.now }
     requires sum { total ≡ sum (inner widths.now) }
     requires counted { HasSize (kind_of fixed.carrier) (length (inner widths.now)) fixed.count }
     requires counted_gs1128 { HasSize (kind_of gs1128.carrier) (length (inner widths.now)) gs1128.count }
     requires fixed { fixed.carrier ≢ Carrier.Gs1128 }
     requires gs1128 { gs1128.carrier ≡ Carrier.Gs1128 }
-    ensures shown { IfOk result (λ carrier. ShowsSymbol widths.now carrier symbol.new) }
+    ensures found { OnOk result (IsFound widths.now found.new) }
     ensures fails { IfErr result (λ stage. FailsAt widths.now stage) }
 {
-    match try_candidate(widths, total, fixed, symbol) {
-        Ok(carrier) => Ok(carrier),
-        Err(stage) => match try_candidate(widths, total, gs1128, symbol) {
-            Ok(carrier) => Ok(carrier),
+    match try_candidate(widths, total, fixed, found) {
+        Ok(()) => Ok(()),
+        Err(stage) => match try_candidate(widths, total, gs1128, found) {
+            Ok(()) => Ok(()),
             Err(other) => Err(later(stage, other)),
         },
     }
 }
 
-/// Puts the symbol that the row shows into `symbol`, and answers its carrier, or why the row is refused.
-fn find_shown(widths: &[u16], symbol: &mut ReadSymbol) -> Result<Carrier, RowFault>
+/// Puts what is found, the symbol that the row shows, into its place, or answers why the row is refused.
+fn find_shown(widths: &[u16], found: &mut Found) -> Result<(), RowFault>
     requires { IsRow widths.now }
-    ensures shown { IfOk result (λ carrier. ShowsSymbol widths.now carrier symbol.new) }
+    ensures found { OnOk result (IsFound widths.now found.new) }
     ensures refused { IfErr result (IsUnread widths.now) }
 {
     if widths.len() == 1 {
@@ -100,30 +100,33 @@ fn find_shown(widths: &[u16], symbol: &mut ReadSymbol) -> Result<Carrier, RowFau
     let inner = inner(widths);
     let total = total_dots(inner);
     match (fixed_candidate(inner.len()), gs1128_candidate(inner.len())) {
-        (Some(fixed), Some(gs1128)) => Ok(try_both(widths, total, fixed, gs1128, symbol)?),
-        (Some(fixed), None) => Ok(try_candidate(widths, total, fixed, symbol)?),
-        (None, Some(gs1128)) => Ok(try_candidate(widths, total, gs1128, symbol)?),
+        (Some(fixed), Some(gs1128)) => Ok(try_both(widths, total, fixed, gs1128, found)?),
+        (Some(fixed), None) => Ok(try_candidate(widths, total, fixed, found)?),
+        (None, Some(gs1128)) => Ok(try_candidate(widths, total, gs1128, found)?),
         (None, None) => Err(RowFault::RunCount),
     }
 }
 
-/// What is found in the row of these widths.
+/// Puts what is found in the row of these widths into its place.
 ///
-/// The symbol is put in its place where it is read, since a result is copied by each function that returns it.
+/// It is written where it is read, since a result is copied by each function that returns it.
+pub(crate) fn find_into(widths: &[u16], found: &mut Found)
+    requires { IsRow widths.now }
+    ensures { IsFound widths.now found.new }
+{
+    if let Err(fault) = find_shown(widths, found) {
+        *found = Found::Refused(fault);
+    }
+}
+
+/// What is found in the row of these widths.
 pub(crate) fn found_in(widths: &[u16]) -> Found
     requires { IsRow widths.now }
     ensures { IsFound widths.now result }
 {
-    let mut symbol = ReadSymbol::BadCheckDigit;
-    let carrier = match find_shown(widths, &mut symbol) {
-        Ok(carrier) => carrier,
-        Err(fault) => return Found::Refused(fault),
-    };
-    match symbol {
-        ReadSymbol::Number(gtin) => Found::Number(carrier, gtin),
-        ReadSymbol::BadCheckDigit => Found::Refused(RowFault::SymbolCheckDigit),
-        ReadSymbol::Characters(values) => Found::Characters(carrier, values),
-    }
+    let mut found = Found::Refused(RowFault::Blank);
+    find_into(widths, &mut found);
+    found
 }
 
 /// What the row of these widths says.
@@ -152,6 +155,11 @@ pub fn read_row(runs: &Runs, year: Year) -> Answer
 pub fn push_row(runs: &Runs, year: Year, form: Form, text: &mut String) -> Result<(), AllocError>
     ensures { OnOk result ((answer : Answer) × IsAnswer runs.now year answer × (string_bytes text.new ≡ string_bytes text.old ++ said form answer)) }
 {
+    if let Form::HumanReadable = form {
+        if let Some((carrier, said)) = runs.said(year) {
+            return push_said(carrier, said, text);
+        }
+    }
     match runs.found() {
         Some(found) => found.push_line(year, form, text),
         None => found_in(runs.widths()).push_line(year, form, text),

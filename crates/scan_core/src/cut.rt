@@ -24,19 +24,6 @@ pub(crate) trait RunList {
         ensures full { OnErr result (MayBeFull self.new) };
 }
 
-impl RunList for Vec<u16> {
-    ghost use Rattle.std.specs.Prelude.{⊤};
-
-    ghost runs = { λ list. list.items };
-
-    // Memory can be refused at any length.
-    ghost MayBeFull = { λ list. ⊤ };
-
-    fn put(&mut self, width: u16) -> Result<(), NoRoom> {
-        self.push(width).map_err(|_| NoRoom)
-    }
-}
-
 impl<const MOST: usize> RunList for ArrayVec<u16, MOST> {
     ghost runs = { λ list. list.items };
 

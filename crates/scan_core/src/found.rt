@@ -1,19 +1,21 @@
 //! What is found in a row before its elements are made.
-ghost use Rattle.std.specs.Prelude.{◌≡◌, ◌++◌, List, OnOk, string_bytes, ℕ};
+ghost use Rattle.std.specs.Prelude.{◌≡◌, ◌++◌, ◌∷◌, List, OnOk, string_bytes, true, ℕ};
 ghost use Rattle.element_core.specs.Lines.{line_text};
 ghost use Rattle.element_core.specs.Terms.{Terms};
 ghost use Rattle.scan_core.specs.Answers.{IsAnswer};
 ghost use Rattle.scan_core.specs.Reading.{IsFound};
 ghost use Rattle.scan_core.specs.Faults.{row_fault_text};
-ghost use Rattle.scan_core.specs.Lines.{said};
+ghost use Rattle.scan_core.specs.Lines.{identifier, said};
+ghost use Rattle.scan_core.specs.inner.Kept.{AreElementsIf, AreElementsOf};
 ghost use Rattle.scan_core.specs.inner.Reading.{IsReadAs, text_in};
 
 use crate::answer::Answer;
 use crate::carrier::Carrier;
 use crate::fault::RowFault;
+use arrayvec::ArrayString;
 use code128_code::{Values, text_of};
 use digits_core::Gtin;
-use element_core::{Elements, Form, Line, Year, elements_line};
+use element_core::{Elements, Form, Line, Year, elements_line, push_elements, push_gtin_element};
 use std::alloc::AllocError;
 
 /// What is found in a row: the symbol that it shows, or why it is refused. The row's answer is made of it.
@@ -50,7 +52,7 @@ fn push_number(
         × ((runs : List ℕ) → IsFound runs (Found.Number carrier gtin.now) → IsAnswer runs year answer)
         × (string_bytes text.new ≡ string_bytes text.old ++ said form answer)) }
 {
-    Line::of_gtin_element(carrier.identifier(), gtin, form).push(text)
+    push_gtin_element(carrier.identifier(), gtin, form, text)
 }
 
 /// Appends the line of a symbol of Code 128, dates under the reference year.
@@ -69,6 +71,30 @@ fn push_characters(
     match &text_of(values) {
         Ok(read) => elements_line(carrier.identifier(), form, read.as_slice(), year).push(text),
         Err(fault) => push_refusal(RowFault::Code128(*fault), text),
+    }
+}
+
+/// Appends the line of a symbol of Code 128 whose elements these are, in the human-readable form.
+pub(crate) fn push_said(carrier: Carrier, said: &str, text: &mut String) -> Result<(), AllocError>
+    ensures { OnOk result (string_bytes text.new ≡ string_bytes text.old ++ (identifier carrier ++ (32 ∷ said.now))) }
+{
+    text.push_str(carrier.identifier())?;
+    text.push(' ')?;
+    text.push_str(said)
+}
+
+/// Puts the elements that the values of a Code 128 symbol say, dates under the reference year, into a text in the
+/// human-readable form, and answers whether they say any.
+#[inline(never)]
+fn put_elements(values: &Values, year: Year, said: &mut ArrayString<288>) -> bool
+    ensures { result ≡ true → AreElementsOf year values.now said.new.bytes }
+{
+    match &text_of(values) {
+        Ok(text) => {
+            said.clear();
+            push_elements(said, Form::HumanReadable, text.as_slice(), year).is_ok()
+        }
+        Err(_) => false,
     }
 }
 
@@ -98,6 +124,23 @@ impl Found {
                 Err(fault) => Answer::Refused(fault),
             },
             Found::Refused(fault) => Answer::Refused(*fault),
+        }
+    }
+
+    /// Puts the elements of characters into a text in the human-readable form, dates under the reference year. Answers
+    /// the year if there are any.
+    pub(crate) fn say(&self, year: Year, said: &mut ArrayString<288>) -> Option<Year>
+        ensures { AreElementsIf result self.now said.new.bytes }
+    {
+        match self {
+            Found::Characters(_, values) => {
+                if put_elements(values, year, said) {
+                    Some(year)
+                } else {
+                    None
+                }
+            }
+            _ => None,
         }
     }
 

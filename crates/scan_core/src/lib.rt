@@ -19,6 +19,7 @@ mod search;
 mod stage;
 mod symbol;
 mod symbols;
+mod widths;
 mod window;
 
 pub use answer::{Answer, find_widths, push_row, read_row, read_widths};

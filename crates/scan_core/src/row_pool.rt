@@ -1,7 +1,8 @@
 //! The memory of rows, which is used again.
-ghost use Rattle.std.specs.Prelude.{IfOk, ◌≡◌, ◌≤◌, ◌+◌, []};
+ghost use Rattle.std.specs.Prelude.{IfErr, IfOk, false, ◌≡◌, ◌≤◌, ◌+◌, []};
 
-use crate::runs::{Kept, Runs};
+use crate::fault::RunFault;
+use crate::runs::{Kept, Runs, new_kept};
 use std::alloc::{AllocError, Global};
 use std::marker::Model;
 use std::mem;
@@ -20,6 +21,8 @@ const MANY_WIDTHS: usize = 1_024;
 pub struct RowPool {
     pub(crate) alloc: Global,
     pub(crate) rows: Vec<Box<Kept>>,
+    /// A memory for the widths of the next row, which are read before they are put in their place.
+    spare: Vec<u16>,
 }
 
 impl Model for RowPool {
@@ -29,7 +32,8 @@ impl Model for RowPool {
 
     ghost view = { λ pool. vec_len pool.rows };
 
-    ghost invariant = { λ pool. (vec_len pool.rows ≤ 1024) × All (λ kept. vec_capacity kept.value.widths ≤ 1024) pool.rows.items };
+    ghost invariant = { λ pool. (vec_len pool.rows ≤ 1024) × All (λ kept. kept.value.widths.room ≤ 1024) pool.rows.items
+        × (vec_capacity pool.spare ≤ 1024) };
 }
 
 impl RowPool {
@@ -40,6 +44,7 @@ impl RowPool {
         Ok(RowPool {
             alloc,
             rows: Vec::with_capacity(alloc, MOST_ROWS)?,
+            spare: Vec::new(alloc),
         })
     }
 
@@ -50,6 +55,7 @@ impl RowPool {
         RowPool {
             alloc,
             rows: Vec::new(alloc),
+            spare: Vec::new(alloc),
         }
     }
 
@@ -59,14 +65,31 @@ impl RowPool {
         ensures empty { result.items ≡ [] }
         ensures same { self.new ≡ self.old }
     {
-        let none = Vec::new(self.alloc);
-        match self.rows.last_mut() {
-            Some(kept) => {
-                let mut widths = mem::replace(&mut kept.widths, none);
-                widths.clear();
-                widths
+        let mut widths = mem::replace(&mut self.spare, Vec::new(self.alloc));
+        widths.clear();
+        widths
+    }
+
+    /// Keeps a memory for the widths of the next row, unless it is large.
+    pub(crate) fn keep_widths(&mut self, widths: Vec<u16>)
+        ensures { self.new ≡ self.old }
+    {
+        if widths.capacity() <= MANY_WIDTHS {
+            self.spare = widths;
+        }
+    }
+
+    /// The memory of a row that was put back, or else new memory.
+    pub(crate) fn take_kept(&mut self) -> Result<Box<Kept>, RunFault>
+        ensures ok { IfOk result (λ kept. kept.value.is_read ≡ false) }
+        ensures refused { IfErr result (λ f. f ≡ RunFault.NoMemory) }
+    {
+        match self.rows.pop() {
+            Some(mut kept) => {
+                kept.is_read = false;
+                Ok(kept)
             }
-            None => none,
+            None => new_kept(self.alloc),
         }
     }
 
@@ -79,7 +102,7 @@ impl RowPool {
     {
         let kept = row.kept;
         if self.rows.len() < self.rows.capacity().min(MOST_ROWS)
-            && kept.widths.capacity() <= MANY_WIDTHS
+            && kept.widths.room() <= MANY_WIDTHS
         {
             self.rows.push_reserved(kept);
         }

@@ -1,15 +1,20 @@
 //! Rows of dots.
-ghost use Rattle.std.specs.Prelude.{Err, None, Some, ◌≡◌, ◌≢◌, ◌<◌, ◌≤◌, ◌+◌, ◌*◌, ◌↔◌, IfErr, IfOk, IfSome, IsErrOf, IsTrue, OnOk, length, nat_le, reverse, sum};
+ghost use Rattle.std.specs.Prelude.{[], Err, None, Some, false, ◌≡◌, ◌≢◌, ◌<◌, ◌≤◌, ◌+◌, ◌*◌, ◌↔◌, IfErr, IfOk, IfSome, IsErrOf, IsTrue, OnOk, length, nat_le, reverse, sum};
 ghost use Rattle.std.specs.List.{list_all};
 ghost use Rattle.scan_core.specs.Bits.{dots_at};
 ghost use Rattle.scan_core.specs.Reading.{IsFound};
 ghost use Rattle.scan_core.specs.Row.{IsRow, dots_of, inner, runs_fault};
+ghost use Rattle.scan_core.specs.inner.Kept.{Says};
 
-use crate::answer::found_in;
+use crate::answer::find_into;
+use crate::carrier::Carrier;
 use crate::cut::cut_into;
-use crate::fault::RunFault;
+use crate::fault::{RowFault, RunFault};
 use crate::found::Found;
 use crate::row_pool::RowPool;
+use crate::widths::Widths;
+use arrayvec::ArrayString;
+use element_core::Year;
 use std::alloc::Global;
 use std::marker::Model;
 
@@ -19,9 +24,6 @@ const MOST_DOTS: u32 = 65_535;
 /// The runs of a row that has this many dots and a light end of no dot on each side: a row has no
 /// more.
 const MOST_RUNS: usize = 65_537;
-
-/// Memory for this many runs at most is taken before a row is cut: most symbols have fewer.
-const MANY_RUNS: usize = 64;
 
 /// A row: the widths of its runs in dots, light and dark in turn, from the light end at its left to
 /// the one at its right. An end may be 0, each run between has a dot, and the row at most 65,535.
@@ -35,8 +37,14 @@ pub struct Runs {
 /// What a row keeps, in one place in memory, so that a row is moved as one address.
 #[derive(Debug, Drop)]
 pub(crate) struct Kept {
-    pub(crate) widths: Vec<u16>,
-    pub(crate) found: Option<Found>,
+    /// What was found in the row, if it was read.
+    pub(crate) found: Found,
+    pub(crate) is_read: bool,
+    /// The reference year under which `said` has the elements of the characters that were found, if it has.
+    pub(crate) said_by: Option<Year>,
+    /// These elements in the human-readable form.
+    pub(crate) said: ArrayString<288>,
+    pub(crate) widths: Widths,
 }
 
 impl Model for Runs {
@@ -46,9 +54,10 @@ impl Model for Runs {
 
     ghost use Rattle.scan_core.specs.inner.Kept.{IsRowWith};
 
-    ghost view = { λ r. r.kept.value.widths.items };
+    ghost view = { λ r. r.kept.value.widths.list };
 
-    ghost invariant = { λ r. IsRowWith r.kept.value.widths.items r.kept.value.found };
+    ghost invariant = { λ r. IsRowWith r.kept.value.widths.list r.kept.value.is_read r.kept.value.found
+        r.kept.value.said_by r.kept.value.said.bytes };
 }
 
 /// The runs between the two light ends.
@@ -98,20 +107,23 @@ pub(crate) fn runs_fault(widths: &[u16]) -> Option<RunFault>
     None
 }
 
-/// The row of these widths, which is not read.
-fn boxed(alloc: Global, widths: Vec<u16>) -> Result<Runs, RunFault>
-    requires { IsRow widths.items }
-    ensures ok { IfOk result (λ r. r ≡ widths.items) }
+/// Room for a row.
+pub(crate) fn new_kept(alloc: Global) -> Result<Box<Kept>, RunFault>
+    ensures ok { IfOk result (λ kept. kept.value.is_read ≡ false) }
+    ensures empty { IfOk result (λ kept. kept.value.widths.list ≡ []) }
     ensures refused { IfErr result (λ f. f ≡ RunFault.NoMemory) }
 {
     match Box::new(
         alloc,
         Kept {
-            widths,
-            found: None,
+            found: Found::Refused(RowFault::Blank),
+            is_read: false,
+            said_by: None,
+            said: ArrayString::new(),
+            widths: Widths::new(alloc),
         },
     ) {
-        Ok(kept) => Ok(Runs { kept }),
+        Ok(kept) => Ok(kept),
         Err(_) => Err(RunFault::NoMemory),
     }
 }
@@ -129,10 +141,11 @@ impl Runs {
         if let Some(fault) = runs_fault(widths) {
             return Err(fault);
         }
-        let Ok(widths) = widths.to_vec(alloc) else {
-            return Err(RunFault::NoMemory);
-        };
-        boxed(alloc, widths)
+        let mut kept = new_kept(alloc)?;
+        match kept.widths.put_slice(widths) {
+            Ok(()) => Ok(Runs { kept }),
+            Err(_) => Err(RunFault::NoMemory),
+        }
     }
 
     /// The row that keeps these widths in dots, the first and the last light. It has the memory of a row that was put
@@ -146,14 +159,12 @@ impl Runs {
         ensures late { IsErrOf result RunFault.NoMemory → runs_fault widths.items ≡ None }
     {
         match runs_fault(widths.as_slice()) {
-            None => match pool.rows.pop() {
-                Some(mut kept) => {
-                    kept.widths = widths;
-                    kept.found = None;
-                    Ok(Runs { kept })
-                }
-                None => boxed(pool.alloc, widths),
-            },
+            None => {
+                let mut kept = pool.take_kept()?;
+                let spare = kept.widths.put_vec(widths);
+                pool.keep_widths(spare);
+                Ok(Runs { kept })
+            }
             Some(fault) => Err(fault),
         }
     }
@@ -173,13 +184,11 @@ impl Runs {
         if width > MOST_DOTS as usize {
             return Err(RunFault::TooWide);
         }
-        let Ok(mut widths) = Vec::with_capacity(alloc, MANY_RUNS.min(width + 2)) else {
-            return Err(RunFault::NoMemory);
-        };
-        if cut_into(bits, from, width, &mut widths).is_err() {
+        let mut kept = new_kept(alloc)?;
+        if cut_into(bits, from, width, &mut kept.widths).is_err() {
             return Err(RunFault::NoMemory);
         }
-        boxed(alloc, widths)
+        Ok(Runs { kept })
     }
 
     /// The widths in dots, the first and the last light.
@@ -195,8 +204,8 @@ impl Runs {
         ensures { self.new ≡ reverse self.old }
     {
         let kept = &mut *self.kept;
-        kept.found = None;
-        kept.widths.as_mut_slice().reverse();
+        kept.is_read = false;
+        kept.widths.reverse();
     }
 
     /// Reads the row, up to the symbol that it shows, and keeps what was found: `read_row` makes its answer of
@@ -205,13 +214,45 @@ impl Runs {
         ensures { self.new ≡ self.old }
     {
         let kept = &mut *self.kept;
-        kept.found = Some(found_in(kept.widths.as_slice()));
+        find_into(kept.widths.as_slice(), &mut kept.found);
+        kept.is_read = true;
+        kept.said_by = None;
+    }
+
+    /// Reads the row as `read` does, and keeps the elements that it has under the reference year too, if it shows a
+    /// symbol of characters that say some: `push_row` need not make them then.
+    pub fn read_by(&mut self, year: Year)
+        ensures { self.new ≡ self.old }
+    {
+        self.read();
+        let kept = &mut *self.kept;
+        kept.said_by = kept.found.say(year, &mut kept.said);
     }
 
     /// What was found in the row, if it was read.
     pub(crate) fn found(&self) -> Option<&Found>
         ensures { IfSome result (λ found. IsFound self.now found.now) }
     {
-        self.kept.found.as_ref()
+        if self.kept.is_read {
+            Some(&self.kept.found)
+        } else {
+            None
+        }
+    }
+    /// The carrier of the symbol of characters that was found in the row, and the elements that it has under the
+    /// reference year, in the human-readable form, if they were kept.
+    pub(crate) fn said(&self, year: Year) -> Option<(Carrier, &str)>
+        ensures { IfSome result (λ said. Says self.now year said.0 said.1.now) }
+    {
+        let kept = &*self.kept;
+        let Some(by) = kept.said_by else {
+            return None;
+        };
+        if kept.is_read && by == year {
+            if let Found::Characters(carrier, _) = &kept.found {
+                return Some((*carrier, kept.said.as_str()));
+            }
+        }
+        None
     }
 }

@@ -4,9 +4,10 @@ ghost use Rattle.std.specs.List.{concat};
 ghost use Rattle.command_runs.specs.inner.AnswerLines.{AddsAnswer};
 
 use element_core::Form;
-use itoa::Buffer;
+use itoa::{Buffer, write_digits};
 use lane_core::Delivery;
 use std::alloc::{AllocError, Global};
+use std::str::from_utf8_unchecked;
 
 /// Appends a number in decimal digits, and a space.
 pub fn push_number(text: &mut String, number: usize) -> Result<(), AllocError>
@@ -22,6 +23,20 @@ pub fn push_number(text: &mut String, number: usize) -> Result<(), AllocError>
     text.push(' ')
 }
 
+/// The longest text of a lane and a number, with a space behind each.
+const FRONT: usize = 15;
+
+/// Appends a lane and a number in decimal digits, each with a space behind it. They are appended at once.
+fn push_front(text: &mut String, lane: u8, number: u32) -> Result<(), AllocError>
+    ensures { OnOk result (string_bytes text.new ≡ string_bytes text.old ++ (decimal lane ++ (32 ∷ (decimal number ++ (32 ∷ []))))) }
+{
+    let mut front = [b' '; FRONT];
+    let middle = write_digits(u64::from(number), &mut front, FRONT - 1);
+    let start = write_digits(u64::from(lane), &mut front, middle - 1);
+    // Digits and spaces are ASCII.
+    text.push_str(unsafe { from_utf8_unchecked(&front[start..]) })
+}
+
 /// Appends the line of the answer to a delivery, as that of this lane and number.
 pub fn push_line(
     text: &mut String,
@@ -32,8 +47,7 @@ pub fn push_line(
 ) -> Result<(), AllocError>
     ensures { OnOk result (AddsAnswer form lane number delivery.now text.old text.new) }
 {
-    push_number(text, usize::from(lane))?;
-    push_number(text, number as usize)?;
+    push_front(text, lane, number)?;
     delivery.push_answer(form, text)?;
     text.push('\n')
 }

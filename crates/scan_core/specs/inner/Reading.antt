@@ -8,8 +8,11 @@ use Rattle.code128_code.specs.Texts.{symbol_text}
 use Rattle.scan_core.specs.declared.fault.RowFault.{RowFault}
 use Rattle.scan_core.specs.declared.fault.RowFault.TheVariants.{SymbolCheckDigit, Elements}
 use Rattle.scan_core.specs.declared.stage.Stage.{Stage}
-use Rattle.scan_core.specs.declared.symbol.ReadSymbol.{ReadSymbol}
-use Rattle.scan_core.specs.declared.symbol.ReadSymbol.TheVariants.{Number, BadCheckDigit, Characters}
+use Rattle.scan_core.specs.declared.carrier.Carrier.{Carrier}
+use Rattle.scan_core.specs.declared.found.Found.{Found}
+use Rattle.scan_core.specs.declared.found.Found.TheVariants as found
+use Rattle.scan_core.specs.Reading.{ReadSymbol}
+use Rattle.scan_core.specs.Reading.ReadSymbol.{Number, BadCheckDigit, Characters}
 use Rattle.code128_code.specs.declared.symbol_values.Values.{Values}
 use Rattle.scan_core.specs.Answers.{row_text}
 use Rattle.scan_core.specs.inner.Stages.{number_of}
@@ -31,6 +34,12 @@ abbrev pub symbol_content : ReadSymbol → Result (List ℕ) RowFault
 symbol_content (Number gtin) = number_text gtin
 symbol_content BadCheckDigit = Err SymbolCheckDigit
 symbol_content (Characters values) = text_in values
+
+-- what is found in a row that shows this symbol of the carrier
+abbrev pub found_of : Carrier → ReadSymbol → Found
+found_of carrier (Number gtin) = found.Number carrier gtin
+found_of carrier BadCheckDigit = found.Refused SymbolCheckDigit
+found_of carrier (Characters values) = found.Characters carrier values
 
 -- under this reference year these are the elements of what is spelled, or this is the fault
 abbrev pub IsReadAs : Terms → Result (List ℕ) RowFault → Result Listing RowFault → Type 0

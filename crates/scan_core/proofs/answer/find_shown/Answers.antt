@@ -52,31 +52,31 @@ try_candidate-requires-in-None-Some-clause-sum c = c.total_dots-total.ensures âˆ
 pub try_candidate-requires-in-None-Some-clause-counted : goal.try_candidate-requires-in-None-Some-clause-counted
 try_candidate-requires-in-None-Some-clause-counted c = rw c.inner-inner.ensures at c.in-None-Some.ensures.found
 
-pub returns-in_err-try_both-in-Some-Some-clause-shown : goal.returns-in_err-try_both-in-Some-Some-clause-shown
-returns-in_err-try_both-in-Some-Some-clause-shown c =
+pub returns-in_err-try_both-in-Some-Some-clause-found : goal.returns-in_err-try_both-in-Some-Some-clause-found
+returns-in_err-try_both-in-Some-Some-clause-found c =
     let p = err_from_is_err_and c.from_residual.result c.from_residual.ensures.1 in
     rw p.1 tt
 
-pub returns-in_err-try_candidate-in-Some-None-clause-shown : goal.returns-in_err-try_candidate-in-Some-None-clause-shown
-returns-in_err-try_candidate-in-Some-None-clause-shown c =
+pub returns-in_err-try_candidate-in-Some-None-clause-found : goal.returns-in_err-try_candidate-in-Some-None-clause-found
+returns-in_err-try_candidate-in-Some-None-clause-found c =
     let from = c.from_residual-in_err-try_candidate-in-Some-None in
     let p = err_from_is_err_and from.result from.ensures.1 in
     rw p.1 tt
 
-pub returns-in_err-try_candidate-in-None-Some-clause-shown : goal.returns-in_err-try_candidate-in-None-Some-clause-shown
-returns-in_err-try_candidate-in-None-Some-clause-shown c =
+pub returns-in_err-try_candidate-in-None-Some-clause-found : goal.returns-in_err-try_candidate-in-None-Some-clause-found
+returns-in_err-try_candidate-in-None-Some-clause-found c =
     let from = c.from_residual-in_err-try_candidate-in-None-Some in
     let p = err_from_is_err_and from.result from.ensures.1 in
     rw p.1 tt
 
-pub returns-in_ok-try_both-in-Some-Some-clause-shown : goal.returns-in_ok-try_both-in-Some-Some-clause-shown
-returns-in_ok-try_both-in-Some-Some-clause-shown c = c.in_ok-try_both-in-Some-Some.ensures.shown
+pub returns-in_ok-try_both-in-Some-Some-clause-found : goal.returns-in_ok-try_both-in-Some-Some-clause-found
+returns-in_ok-try_both-in-Some-Some-clause-found c = c.in_ok-try_both-in-Some-Some.ensures.found
 
-pub returns-in_ok-try_candidate-in-Some-None-clause-shown : goal.returns-in_ok-try_candidate-in-Some-None-clause-shown
-returns-in_ok-try_candidate-in-Some-None-clause-shown c = c.in_ok-try_candidate-in-Some-None.ensures.shown
+pub returns-in_ok-try_candidate-in-Some-None-clause-found : goal.returns-in_ok-try_candidate-in-Some-None-clause-found
+returns-in_ok-try_candidate-in-Some-None-clause-found c = c.in_ok-try_candidate-in-Some-None.ensures.found
 
-pub returns-in_ok-try_candidate-in-None-Some-clause-shown : goal.returns-in_ok-try_candidate-in-None-Some-clause-shown
-returns-in_ok-try_candidate-in-None-Some-clause-shown c = c.in_ok-try_candidate-in-None-Some.ensures.shown
+pub returns-in_ok-try_candidate-in-None-Some-clause-found : goal.returns-in_ok-try_candidate-in-None-Some-clause-found
+returns-in_ok-try_candidate-in-None-Some-clause-found c = c.in_ok-try_candidate-in-None-Some.ensures.found
 
 pub returns-in_err-try_both-in-Some-Some-clause-refused : goal.returns-in_err-try_both-in-Some-Some-clause-refused
 returns-in_err-try_both-in-Some-Some-clause-refused c =

@@ -3,7 +3,7 @@ use Rattle.scan_core.specs.Row.{inner}
 use Rattle.scan_core.specs.Reading.{IsSymbolAs}
 use Rattle.scan_core.specs.Showing.{IsQuiet, IsSymbol, Rounds, Way, along, kind_of}
 use Rattle.scan_core.proofs.CandidateFacts.{candidate_dots, least_modules, most_modules}
-use Rattle.scan_core.proofs.CandidateShows.{fails_pattern, fails_rounding, found_shows}
+use Rattle.scan_core.proofs.CandidateShows.{fails_pattern, fails_rounding, found_shows, shown_found}
 use Rattle.scan_core.proofs.answer.try_candidate.Goals as goal
 
 pub round-requires-clause-sum : goal.round-requires-clause-sum
@@ -37,14 +37,16 @@ returns-then-not-read_some_way-clause-fails c =
     (c.read_some_way.ensures.none c.if-not-read_some_way.true) in
     fails_pattern runs c.args.candidate.carrier N modules c.requires.counted quiet rounds c.requires.row none
 
-pub returns-clause-shown : goal.returns-clause-shown
-returns-clause-shown c =
+pub returns-clause-found : goal.returns-clause-found
+returns-clause-found c =
     let runs = c.args.widths.now in
+    let carrier = c.args.candidate.carrier in
     let N = c.args.candidate.count in
     let modules = c.round.new.modules.items in
     let rounds : Rounds (inner runs) N modules = rw c.inner.ensures at (c.round.ensures.found c.if-not-round.false) in
     let quiet : IsQuiet runs N = search rules in
     let found = c.read_some_way.ensures.found c.if-not-read_some_way.false in
-    let symbol = c.read_some_way.new.symbol in
-    found_shows runs c.args.candidate.carrier N modules c.requires.counted quiet rounds symbol found.0
-    (subst (λ ms. IsSymbolAs (kind_of c.args.candidate.carrier) (along found.0 ms) symbol) c.new-modules.ensures found.1)
+    let symbol = found.1 in
+    rw found.3 (shown_found runs carrier symbol
+    (found_shows runs carrier N modules c.requires.counted quiet rounds symbol found.0
+    (subst (λ ms. IsSymbolAs (kind_of carrier) (along found.0 ms) symbol) c.new-modules.ensures found.2)))

@@ -5,7 +5,7 @@ use Rattle.element_core.specs.Lines.{elements_text}
 use Rattle.scan_core.specs.Answers.{row_text}
 use Rattle.scan_core.specs.declared.answer.Answer.TheVariants.{Read, Refused}
 use Rattle.scan_core.specs.declared.fault.RowFault.TheVariants.{Code128, Elements}
-use Rattle.scan_core.specs.declared.symbol.ReadSymbol.TheVariants.{Characters}
+use Rattle.scan_core.specs.Reading.ReadSymbol.{Characters}
 use Rattle.scan_core.proofs.AnswerFacts.{answer_from}
 use Rattle.scan_core.proofs.CandidateShows.{symbol_tells}
 use Rattle.scan_core.proofs.found.push_characters.Goals as goal

@@ -6,4 +6,5 @@ use Rattle.scan_core.proofs.symbol.read_some_way.Goals as goal
 
 pub returns-clause-found : goal.returns-clause-found
 returns-clause-found c = λ yes.
-    (Backwards, subst (λ ms. IsSymbolAs (kind_of c.args.carrier) ms c.read_symbol-2.new.symbol) c.reverse.ensures (c.read_symbol-2.ensures.found yes))
+    let found = c.read_symbol-2.ensures.found yes in
+    (Backwards, found.0, subst (λ ms. IsSymbolAs (kind_of c.args.carrier) ms found.0) c.reverse.ensures found.1, found.2)

@@ -1,7 +1,7 @@
 use Rattle.std.proofs.Common.{Ok, Err, subst}
 use Rattle.scan_core.specs.inner.Reading.{number_text, text_in}
 use Rattle.element_core.specs.Elements.{IsElements, canonical}
-use Rattle.scan_core.specs.declared.symbol.ReadSymbol.TheVariants.{Characters, Number}
+use Rattle.scan_core.specs.Reading.ReadSymbol.{Characters, Number}
 use Rattle.scan_core.proofs.AnswerFacts.{answer_from}
 use Rattle.scan_core.proofs.CandidateShows.{symbol_tells}
 use Rattle.scan_core.proofs.found.Found.answer.Goals as goal

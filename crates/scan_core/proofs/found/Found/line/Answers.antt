@@ -5,7 +5,7 @@ use Rattle.scan_core.specs.inner.Reading.{number_text}
 use Rattle.scan_core.specs.Answers.{row_text}
 use Rattle.scan_core.specs.declared.answer.Answer.TheVariants.{Read, Refused}
 use Rattle.scan_core.specs.declared.fault.RowFault.TheVariants.{Code128, Elements}
-use Rattle.scan_core.specs.declared.symbol.ReadSymbol.TheVariants.{Characters, Number}
+use Rattle.scan_core.specs.Reading.ReadSymbol.{Characters, Number}
 use Rattle.scan_core.proofs.AnswerFacts.{answer_from}
 use Rattle.scan_core.proofs.CandidateShows.{symbol_tells}
 use Rattle.scan_core.proofs.found.Found.line.Goals as goal

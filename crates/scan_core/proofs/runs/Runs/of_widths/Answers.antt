@@ -1,6 +1,8 @@
+use Rattle.scan_core.proofs.KeptFacts.{unread}
 use Rattle.scan_core.proofs.RowFacts.{row_of}
 use Rattle.scan_core.proofs.runs.Runs.of_widths.Goals as goal
 
-pub boxed-requires : goal.boxed-requires
-boxed-requires c =
-    rw (c.in-Ok.ensures.items_if_clones_equal (λ _ _ same. same)) (row_of c.args.widths.now c.in_default.ensures)
+pub invariant_of-result : goal.invariant_of-result
+invariant_of-result c =
+    unread c.put_slice.new.self.list c.in_ok-kept.kept.value c.deref_mut.result.now
+    (rw c.in-Ok.ensures (row_of c.args.widths.now c.in_default.ensures)) c.in_ok-kept.ensures.ok c.deref_mut.ensures.value

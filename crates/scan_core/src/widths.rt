@@ -1,0 +1,141 @@
+//! The widths of a row in their place in memory.
+ghost use Rattle.std.specs.Prelude.{◌≡◌, ◌≤◌, ◌++◌, ◌∷◌, [], IfOk, OnErr, OnOk, length, reverse};
+
+use crate::cut::{NoRoom, RunList};
+use std::alloc::{AllocError, Global};
+use std::marker::Model;
+use std::mem;
+
+/// So many widths stand in the place itself: most rows have fewer.
+pub(crate) const FEW: usize = 160;
+
+/// The widths of a row. Up to 160 stand here, so that a row lies in one place in memory, and more have a memory of
+/// their own.
+#[derive(Debug, Drop)]
+pub(crate) struct Widths {
+    /// How many stand in `few`, if `many` is empty.
+    count: usize,
+    few: [u16; FEW],
+    many: Vec<u16>,
+}
+
+impl Model for Widths {
+    ghost use Rattle.std.specs.Prelude.{◌==◌, ◌≤◌, if◌then◌else◌, take, vec_capacity, vec_len};
+    ghost use Rattle.scan_core.specs.inner.Place.{Place};
+
+    ghost Value = { Place };
+
+    ghost view = { λ w. record {
+      list = if vec_len w.many == 0 then take w.count w.few else w.many.items;
+      room = vec_capacity w.many;
+    } };
+
+    ghost invariant = { λ w. w.count ≤ 160 };
+}
+
+impl Widths {
+    /// No widths.
+    pub(crate) fn new(alloc: Global) -> Widths
+        ensures list { result.list ≡ [] }
+    {
+        Widths {
+            count: 0,
+            few: [0; FEW],
+            many: Vec::new(alloc),
+        }
+    }
+
+    /// The widths.
+    pub(crate) fn as_slice(&self) -> &[u16]
+        ensures { result.now ≡ self.now.list }
+    {
+        if self.many.is_empty() {
+            &self.few[..self.count]
+        } else {
+            self.many.as_slice()
+        }
+    }
+
+    /// How many widths the memory of their own has room for.
+    pub(crate) fn room(&self) -> usize
+        ensures { result ≡ self.now.room }
+    {
+        self.many.capacity()
+    }
+
+    /// Turns the widths end for end.
+    pub(crate) fn reverse(&mut self)
+        ensures { self.new.list ≡ reverse self.old.list }
+    {
+        if self.many.is_empty() {
+            self.few[..self.count].reverse();
+        } else {
+            self.many.as_mut_slice().reverse();
+        }
+    }
+
+    /// Puts these widths in the place of those that stand here.
+    fn put_few(&mut self, widths: &[u16])
+        requires { length widths.now ≤ 160 }
+        ensures { self.new.list ≡ widths.now }
+    {
+        self.many.clear();
+        self.count = widths.len();
+        self.few[..self.count].copy_from_slice(widths);
+    }
+
+    /// Puts these widths in the place of those that stand here. If there is no memory they stay.
+    pub(crate) fn put_slice(&mut self, widths: &[u16]) -> Result<(), AllocError>
+        ensures { OnOk result (self.new.list ≡ widths.now) }
+    {
+        if widths.len() <= FEW {
+            self.put_few(widths);
+            return Ok(());
+        }
+        self.many.clear();
+        self.many.extend_from_slice(widths)
+    }
+
+    /// Puts these widths in the place of those that stand here. What is left is a memory that is not needed: that of
+    /// few widths, or else that of those before.
+    pub(crate) fn put_vec(&mut self, widths: Vec<u16>) -> Vec<u16>
+        ensures { self.new.list ≡ widths.items }
+    {
+        if widths.len() <= FEW {
+            self.put_few(widths.as_slice());
+            widths
+        } else {
+            mem::replace(&mut self.many, widths)
+        }
+    }
+
+    /// Puts a width at the end, in a memory of their own.
+    fn push_many(&mut self, width: u16) -> Result<(), AllocError>
+        ensures put { OnOk result (self.new.list ≡ self.old.list ++ width ∷ []) }
+        ensures unchanged { OnErr result (self.new.list ≡ self.old.list) }
+    {
+        if self.many.is_empty() {
+            self.many.extend_from_slice(&self.few[..self.count])?;
+        }
+        self.many.push(width)?;
+        Ok(())
+    }
+}
+
+impl RunList for Widths {
+    ghost use Rattle.std.specs.Prelude.{⊤};
+
+    ghost runs = { λ widths. widths.list };
+
+    // Memory can be refused at any length.
+    ghost MayBeFull = { λ widths. ⊤ };
+
+    fn put(&mut self, width: u16) -> Result<(), NoRoom> {
+        if self.many.is_empty() && self.count < FEW {
+            self.few[self.count] = width;
+            self.count += 1;
+            return Ok(());
+        }
+        self.push_many(width).map_err(|_| NoRoom)
+    }
+}
