@@ -20,7 +20,6 @@ pub mod PairLines
 pub mod PairsApart
 pub mod PieceLemmas
 pub mod Pieces
-pub mod ReadingLines
 pub mod RowsApart
 pub mod Shown
 pub mod TableLaws

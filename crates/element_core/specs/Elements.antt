@@ -13,7 +13,7 @@ use Rattle.digits_core.specs.Digits.{AreDigits, IsChecked, ascii_of}
 use Rattle.element_core.specs.Checks.{is_checked_by}
 use Rattle.element_core.specs.Rules.{follows}
 use Rattle.element_core.specs.Terms.{Terms, every_ai, profile, rows_by, row_by_terms}
-use Rattle.element_core.specs.Times.{day_named_by, is_named, names_time, time_named_by}
+use Rattle.element_core.specs.Times.{day_named_by, is_named, names_time, second_day_named_by, time_named_by}
 use Rattle.element_core.specs.Table.{Row, first_rows, row_at, least_of, greatest_of, predefined_length, is_dated, is_7003_or_8008}
 
 -- ---- values
@@ -211,6 +211,15 @@ day_by year value _ = None
 -- the day of an element, if its AI is one of a day
 abbrev pub entry_day : Terms → Entry → Option (ℕ × ℕ × ℕ)
 entry_day year e = day_by year.year e.value (parts_at e.ai)
+
+-- the second day that a value names, by its parts
+abbrev pub second_day_by : ℕ → List ℕ → List Part → Option (ℕ × ℕ × ℕ)
+second_day_by year value (p ∷ []) = second_day_named_by p.rule value year
+second_day_by year value _ = None
+
+-- the last day of an element, if its AI is one of a period and it names a second day
+abbrev pub entry_until : Terms → Entry → Option (ℕ × ℕ × ℕ)
+entry_until year e = second_day_by year.year e.value (parts_at e.ai)
 
 -- the hours, the minutes and the seconds that a value names, by its parts
 abbrev pub time_by : List ℕ → List Part → Option (List ℕ)

@@ -80,6 +80,11 @@ time_named_by DayPerhapsTime text = time_of (drop 6 text)
 time_named_by LongDayAndTime text = time_of (drop 8 text)
 time_named_by _ text = None
 
+-- the second day that it names
+abbrev pub second_day_named_by : Rule → List ℕ → ℕ → Option (ℕ × ℕ × ℕ)
+second_day_named_by OneOrTwoDays text reference = exact_day_of (drop 6 text) reference
+second_day_named_by _ text reference = None
+
 -- whether there are the days and the time that a text is to name
 abbrev pub is_named : ℕ → Rule → List ℕ → Bool
 is_named reference rule text =

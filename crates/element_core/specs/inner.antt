@@ -5,6 +5,5 @@ pub mod Families
 pub mod Growing
 pub mod Listings
 pub mod PartTests
-pub mod Reading
 pub mod Table
 pub mod Walks

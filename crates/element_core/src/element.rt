@@ -2,10 +2,10 @@
 
 ghost use Rattle.std.specs.Prelude.{◌≡◌, ◌≤◌, length};
 ghost use Rattle.element_core.specs.Days.{IsDay};
-ghost use Rattle.element_core.specs.Elements.{entry_day, entry_time};
+ghost use Rattle.element_core.specs.Elements.{entry_day, entry_time, entry_until};
 
-use crate::family::family_at;
-use crate::named::{day_named_by, time_named_by};
+use crate::family::{AiFamily, family_at};
+use crate::named::{day_named_by, second_day_named_by, time_named_by};
 use crate::terms::Year;
 use crate::text::Text;
 use jiff::civil::Date;
@@ -24,43 +24,33 @@ pub struct Element {
     pub time: Option<[u8; 3]>,
 }
 
-/// The day of an element, if its AI is one of a day.
-pub(crate) fn day_of_element(ai: &[u8], value: &[u8], year: Year) -> Option<Date>
-    ensures { IsDay result (entry_day year (record { ai = ai.now; value = value.now })) }
-{
-    match family_at(ai)?.parts {
-        [part] => day_named_by(part.rule, value, year.reference()),
-        _ => None,
-    }
+/// The days and the time that an element names.
+#[derive(Clone, Copy)]
+pub(crate) struct Named {
+    /// The day, if its AI is one of a day.
+    pub date: Option<Date>,
+    /// The hours, the minutes and the seconds, if its AI is one of a time.
+    pub time: Option<[u8; 3]>,
+    /// The last day of a period, if its AI is one of a period and it names a second day.
+    pub until: Option<Date>,
 }
 
-/// The hours, the minutes and the seconds of an element, if its AI is one of a time.
-pub(crate) fn time_of_element(ai: &[u8], value: &[u8]) -> Option<[u8; 3]>
-    ensures { result ≡ entry_time (record { ai = ai.now; value = value.now }) }
+/// The days and the time of an element, by one look at the table.
+pub(crate) fn named_of_element(ai: &[u8], value: &[u8], year: Year) -> Named
+    ensures date { IsDay result.date (entry_day year (record { ai = ai.now; value = value.now })) }
+    ensures time { result.time ≡ entry_time (record { ai = ai.now; value = value.now }) }
+    ensures until { IsDay result.until (entry_until year (record { ai = ai.now; value = value.now })) }
 {
-    match family_at(ai)?.parts {
-        [part] => time_named_by(part.rule, value),
-        _ => None,
-    }
-}
-
-/// The day and the time of an element, by one look at the table.
-pub(crate) fn named_of_element(
-    ai: &[u8],
-    value: &[u8],
-    year: Year,
-) -> (Option<Date>, Option<[u8; 3]>)
-    ensures day { IsDay result.0 (entry_day year (record { ai = ai.now; value = value.now })) }
-    ensures time { result.1 ≡ entry_time (record { ai = ai.now; value = value.now }) }
-{
-    let Some(family) = family_at(ai) else {
-        return (None, None);
-    };
-    match family.parts {
-        [part] => (
-            day_named_by(part.rule, value, year.reference()),
-            time_named_by(part.rule, value),
-        ),
-        _ => (None, None),
+    match family_at(ai) {
+        Some(AiFamily { parts: [part], .. }) => Named {
+            date: day_named_by(part.rule, value, year.reference()),
+            time: time_named_by(part.rule, value),
+            until: second_day_named_by(part.rule, value, year.reference()),
+        },
+        _ => Named {
+            date: None,
+            time: None,
+            until: None,
+        },
     }
 }

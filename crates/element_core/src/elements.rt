@@ -1,24 +1,23 @@
 //! Lists of elements.
 
-ghost use Rattle.std.specs.Prelude.{◌≡◌, ◌+◌, ◌<◌, ◌≤◌, [], ◌∷◌, ◌++◌, length, slice_get, List, Some, IfOk, IfErr, IsOk, OnErr, OnOk, None, Err, IsTrue, string_bytes};
+ghost use Rattle.std.specs.Prelude.{◌≡◌, ◌+◌, ◌<◌, ◌≤◌, [], ◌∷◌, length, slice_get, List, Some, IfOk, IfErr, IsOk, OnOk, None, Err, IsTrue};
 ghost use Rattle.digits_core.specs.Buffers.{pasted};
 ghost use Rattle.element_core.specs.Days.{IsDay};
 ghost use Rattle.element_core.specs.Rows.{entry_in};
 ghost use Rattle.element_core.specs.Elements.{Entry, IsElements, FirstFault, canonical, entry_day, entry_time, gtin_entry, hri, is_printable, pairs_text};
 
 use crate::draft::{append, gap_length};
-use crate::element::{Element, day_of_element, time_of_element};
+use crate::element::{Element, named_of_element};
 use crate::fault::ElementFault;
 use crate::front::element_at;
-use crate::hri::{add_line_of, line_of, put_line};
+use crate::hri::{put_line, write_line};
 use crate::pair_line::pairs_of;
 use crate::pairs::{Pair, first_fault, needs_separator};
 use crate::shown_list::{count_of, element_of};
 use crate::terms::Year;
 use crate::text::{Text, copied};
 use arrayvec::ArrayString;
-use digits_core::{Gtin, put_at};
-use std::alloc::AllocError;
+use digits_core::Gtin;
 use std::marker::Model;
 
 /// A valid list of elements under its reference year.
@@ -158,6 +157,7 @@ impl Elements {
         ensures canonical { result.now ≡ canonical self.now.list }
         ensures elements { shown_elements result.now ≡ self.now.list }
         ensures few { length result.now ≤ 192 }
+        ensures most { length self.now.list ≤ 48 }
     {
         self.text.as_slice()
     }
@@ -172,11 +172,12 @@ impl Elements {
         let Some(front) = element_of(self.text.as_slice(), i) else {
             unreachable!();
         };
+        let named = named_of_element(front.ai, front.value, self.year);
         Element {
             ai: copied(front.ai),
             value: copied(front.value),
-            date: day_of_element(front.ai, front.value, self.year),
-            time: time_of_element(front.ai, front.value),
+            date: named.date,
+            time: named.time,
         }
     }
 
@@ -184,7 +185,16 @@ impl Elements {
     pub fn hri(&self) -> ArrayString<288>
         ensures { result.bytes ≡ hri self.now.list }
     {
-        line_of(self.text.as_slice())
+        let mut line = ArrayString::new();
+        self.write_hri(&mut line);
+        line
+    }
+
+    /// Writes the human-readable interpretation into a text, in the place of what it had.
+    pub fn write_hri(&self, line: &mut ArrayString<288>)
+        ensures { line.new.bytes ≡ hri self.now.list }
+    {
+        write_line(self.text.as_slice(), line);
     }
 
     /// Puts the human-readable interpretation into `out` from `at` on if there is room for all of it;
@@ -198,47 +208,11 @@ impl Elements {
         put_line(self.text.as_slice(), at, out)
     }
 
-    /// Puts the human-readable interpretation at the end of a text. If there is no memory for it, the
-    /// text stays as it was.
-    pub fn push_hri(&self, line: &mut String) -> Result<(), AllocError>
-        ensures ok { OnOk result (string_bytes line.new ≡ string_bytes line.old ++ hri self.now.list) }
-        ensures err { OnErr result (string_bytes line.new ≡ string_bytes line.old) }
-    {
-        let text = self.text.as_slice();
-        // An element has four bytes at least with its separator, and the line two parentheses for it.
-        line.reserve(text.len() + (text.len() + 1) / 4 * 2)?;
-        add_line_of(line, text);
-        Ok(())
-    }
     /// The elements as pairs: of each its AI, `=` and its value, with a tab between each two. Different
     /// lists of elements have different pairs.
     pub fn pairs(&self) -> ArrayString<288>
         ensures { result.bytes ≡ pairs_text self.now.list }
     {
         pairs_of(self.text.as_slice())
-    }
-
-    /// Puts the pairs into `out` from `at` on if there is room for all of them; else `out` is as it
-    /// was. The answer is how many bytes they have, at most 288.
-    pub fn put_pairs(&self, at: usize, out: &mut [u8]) -> usize
-        ensures count { result ≡ length (pairs_text self.now.list) }
-        ensures few { result ≤ 288 }
-        ensures put { at + result ≤ length out.old → out.new ≡ pasted out.old at (pairs_text self.now.list) }
-        ensures unchanged { length out.old < at + result → out.new ≡ out.old }
-    {
-        let pairs = self.pairs();
-        let bytes = pairs.as_bytes();
-        if at <= out.len() && bytes.len() <= out.len() - at {
-            put_at(bytes, at, out);
-        }
-        bytes.len()
-    }
-
-    /// Puts the pairs at the end of a text. If there is no memory for them, the text stays as it was.
-    pub fn push_pairs(&self, line: &mut String) -> Result<(), AllocError>
-        ensures ok { OnOk result (string_bytes line.new ≡ string_bytes line.old ++ pairs_text self.now.list) }
-        ensures err { OnErr result (string_bytes line.new ≡ string_bytes line.old) }
-    {
-        line.push_str(self.pairs().as_str())
     }
 }

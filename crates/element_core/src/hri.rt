@@ -1,6 +1,6 @@
 //! The human-readable interpretation (GS1 General Specifications, section 4.14).
 
-ghost use Rattle.std.specs.Prelude.{◌≡◌, ◌+◌, ◌*◌, ◌/◌, ◌<◌, ◌≤◌, ◌∷◌, ◌++◌, length, All, string_bytes, string_capacity, string_len};
+ghost use Rattle.std.specs.Prelude.{◌≡◌, ◌+◌, ◌*◌, ◌/◌, ◌<◌, ◌≤◌, ◌∷◌, ◌++◌, length, All};
 ghost use Rattle.arrayvec.specs.ArrayString.{array_string_len};
 ghost use Rattle.digits_core.specs.Buffers.{pasted};
 ghost use Rattle.element_core.specs.Elements.{hri};
@@ -43,56 +43,16 @@ pub(crate) fn push_element(line: &mut ArrayString<288>, ai: &[u8], value: &[u8])
     push_bytes(line, value);
 }
 
-/// The line of the elements that stand in a text.
-pub(crate) fn line_of(text: &[u8]) -> ArrayString<288>
+/// Writes the line of the elements that stand in a text, in the place of what the line had.
+pub(crate) fn write_line(text: &[u8], line: &mut ArrayString<288>)
     requires ascii { AreAscii (shown_elements text.now) }
     requires room { length (hri (shown_elements text.now)) ≤ 288 }
-    ensures { result.bytes ≡ hri (shown_elements text.now) }
+    ensures { line.new.bytes ≡ hri (shown_elements text.now) }
 {
-    let mut line = ArrayString::new();
+    line.clear();
     let mut rest = text;
     while let Some(front) = front_of(rest) {
-        push_element(&mut line, front.ai, front.value);
-        rest = front.rest;
-    }
-    line
-}
-
-/// Puts ASCII bytes at the end of a text that has room for them.
-fn add_bytes(line: &mut String, bytes: &[u8])
-    requires ascii { All (λ b. b < 128) bytes.now }
-    requires room { string_len line.old + length bytes.now ≤ string_capacity line.old }
-    ensures bytes { string_bytes line.new ≡ string_bytes line.old ++ bytes.now }
-    ensures len { string_len line.new ≡ string_len line.old + length bytes.now }
-    ensures capacity { string_capacity line.old ≤ string_capacity line.new }
-{
-    let _ = line.push_str(ascii_str(bytes));
-}
-
-/// Puts an element at the end of a text that has room for it: its AI in parentheses, then its value.
-fn add_element(line: &mut String, ai: &[u8], value: &[u8])
-    requires ai { All (λ b. b < 128) ai.now }
-    requires value { All (λ b. b < 128) value.now }
-    requires room { string_len line.old + length ai.now + length value.now + 2 ≤ string_capacity line.old }
-    ensures bytes { string_bytes line.new ≡ string_bytes line.old ++ (40 ∷ ai.now ++ (41 ∷ value.now)) }
-    ensures len { string_len line.new ≡ string_len line.old + length ai.now + length value.now + 2 }
-    ensures capacity { string_capacity line.old ≤ string_capacity line.new }
-{
-    add_bytes(line, b"(");
-    add_bytes(line, ai);
-    add_bytes(line, b")");
-    add_bytes(line, value);
-}
-
-/// Puts the line of the elements that stand in a text at the end of a text that has room for it.
-pub(crate) fn add_line_of(line: &mut String, text: &[u8])
-    requires ascii { AreAscii (shown_elements text.now) }
-    requires room { string_len line.old + length (hri (shown_elements text.now)) ≤ string_capacity line.old }
-    ensures { string_bytes line.new ≡ string_bytes line.old ++ hri (shown_elements text.now) }
-{
-    let mut rest = text;
-    while let Some(front) = front_of(rest) {
-        add_element(line, front.ai, front.value);
+        push_element(line, front.ai, front.value);
         rest = front.rest;
     }
 }

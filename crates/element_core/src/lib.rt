@@ -19,7 +19,6 @@ mod named;
 mod pair_line;
 mod pairs;
 mod part;
-mod reading;
 mod row;
 mod rules;
 mod shown_list;
@@ -44,7 +43,6 @@ pub use laws::{
 pub use line::{Line, digit_line, elements_line, gtin_line, push_gtin_element};
 pub use pairs::Pair;
 pub use part::{Check, Part, PartFormat, Rule};
-pub use reading::push_elements;
 pub use row::{AiRow, ai_row};
 pub use terms::{Terms, Year};
 pub use text::Text;

@@ -9,7 +9,6 @@ ghost use Rattle.element_core.specs.Lines.{IsDigitLine, IsElementsLine, elements
 use crate::elements::Elements;
 use crate::form::Form;
 use crate::hri::{ascii_str, push_bytes};
-use crate::reading::push_elements;
 use crate::terms::Year;
 use arrayvec::ArrayString;
 use digits_core::{Gtin, Refusal, payload_digit};
@@ -151,9 +150,8 @@ pub fn digit_line(text: &[u8]) -> Line
 pub fn elements_line(word: &'static str, form: Form, text: &[u8], year: Year) -> Line
     ensures { IsElementsLine word.now (elements_text form) year text.now (line_text result) }
 {
-    let mut line = ArrayString::new();
-    match push_elements(&mut line, form, text, year) {
-        Ok(()) => Line::Said { word, text: line },
+    match &Elements::parse(text, year) {
+        Ok(elements) => Line::of_elements(word, elements, form),
         Err(fault) => Line::refused(fault.refusal()),
     }
 }

@@ -2,7 +2,7 @@
 
 ghost use Rattle.std.specs.Prelude.{◌≡◌, take, drop, is_some};
 ghost use Rattle.element_core.specs.Days.{IsDay};
-ghost use Rattle.element_core.specs.Times.{day_named_by, is_named, names_day, names_second_day, names_time, time_named_by};
+ghost use Rattle.element_core.specs.Times.{day_named_by, is_named, names_day, names_second_day, names_time, second_day_named_by, time_named_by};
 
 use crate::date::date_of;
 use crate::part::Rule;
@@ -70,6 +70,16 @@ pub(crate) fn time_named_by(rule: Rule, text: &[u8]) -> Option<[u8; 3]>
         | Rule::Media
         | Rule::CompanyPrefix
         | Rule::ModelNumber => None,
+    }
+}
+
+/// The second day that a text names by the rule.
+pub(crate) fn second_day_named_by(rule: Rule, text: &[u8], reference: ReferenceYear) -> Option<Date>
+    ensures { IsDay result (second_day_named_by rule text.now reference) }
+{
+    match rule {
+        Rule::OneOrTwoDays => exact_date_of(split(text, 6).1, reference),
+        _ => None,
     }
 }
 

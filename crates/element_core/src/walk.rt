@@ -2,7 +2,7 @@
 
 ghost use Rattle.std.specs.Prelude.{◌≡◌, ◌+◌, ◌-◌, ◌≤◌, ◌<◌, IfSome, drop, length, take};
 ghost use Rattle.element_core.specs.Days.{IsDay};
-ghost use Rattle.element_core.specs.Elements.{entry_day, entry_time};
+ghost use Rattle.element_core.specs.Elements.{entry_day, entry_time, entry_until};
 ghost use Rattle.element_core.specs.Shown.{shown_elements};
 ghost use Rattle.element_core.specs.Walked.{elements_seen, entry_seen};
 
@@ -11,13 +11,15 @@ use crate::front::front_of;
 use crate::terms::Year;
 use jiff::civil::Date;
 
-/// An element where it stands in a text, with the day and the time that it names.
+/// An element where it stands in a text, with the days and the time that it names.
 #[derive(Clone, Copy)]
 pub struct Seen<'a> {
     pub ai: &'a [u8],
     pub value: &'a [u8],
     pub date: Option<Date>,
     pub time: Option<[u8; 3]>,
+    /// The last day of a period, if it names one.
+    pub until: Option<Date>,
     /// What stands after it and its separator.
     pub rest: &'a [u8],
 }
@@ -32,14 +34,16 @@ pub fn first_element(text: &[u8], year: Year) -> Option<Seen<'_>>
     ensures some { IfSome result (λ s. 0 < length s.ai.now) }
     ensures date { IfSome result (λ s. IsDay s.date (entry_day year (entry_seen s))) }
     ensures time { IfSome result (λ s. s.time ≡ entry_time (entry_seen s)) }
+    ensures until { IfSome result (λ s. IsDay s.until (entry_until year (entry_seen s))) }
 {
     let front = front_of(text)?;
-    let (date, time) = named_of_element(front.ai, front.value, year);
+    let named = named_of_element(front.ai, front.value, year);
     Some(Seen {
         ai: front.ai,
         value: front.value,
-        date,
-        time,
+        date: named.date,
+        time: named.time,
+        until: named.until,
         rest: front.rest,
     })
 }

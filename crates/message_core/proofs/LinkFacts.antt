@@ -1,5 +1,5 @@
 -- Steps through a Digital Link: its scheme, the qualifiers of its path, its pairs, and what they say.
-use Rattle.std.proofs.Common.{◌≡◌, ◌<◌, ◌≤◌, ◌+◌, ◌&&◌, ◌++◌, ◌∷◌, ◌∙◌, List, None, Option, Some, Result, Err, [], ap, append_assoc, arith, drop, false, if◌then◌else◌, length, length-append, nat_le, refl, sym, true, ℕ}
+use Rattle.std.proofs.Common.{◌≡◌, ◌<◌, ◌≤◌, ◌+◌, ◌&&◌, ◌++◌, ◌∷◌, ◌∙◌, List, Option, Some, Err, [], ap, append_assoc, arith, drop, false, if◌then◌else◌, length, length-append, nat_le, refl, sym, true, ℕ}
 use Rattle.std.specs.List.{list_all}
 use Rattle.std.proofs.lemmas.Bool.{and_from, and_parts, both_ways, false_from_ne_true, le-leb, leb-true}
 use Rattle.std.proofs.lemmas.List.{drop_all, drop_more}

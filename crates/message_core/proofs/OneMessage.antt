@@ -15,7 +15,6 @@ use Rattle.element_core.specs.Pairs.{FaultlessPairs, list_fault}
 use Rattle.element_core.specs.Terms.{Terms}
 use Rattle.element_core.specs.declared.fault.ElementFault.{ElementFault}
 use Rattle.element_core.specs.declared.fault.ElementFault.TheVariants as element
-use Rattle.element_core.specs.declared.form.Form.TheVariants.{Pairs}
 use Rattle.message_core.specs.Faults.{message_fault_text}
 use Rattle.message_core.specs.Heads.{head_of}
 use Rattle.message_core.specs.Laws.{OneMessage, OneMessageLine, PairsSayElements}

@@ -1,5 +1,5 @@
 -- The digits of a UPC-E say one thing, and stand for a GTIN of 14 digits.
-use Rattle.std.proofs.Common.{◌≡◌, ◌<◌, ◌==◌, ◌+◌, ◌-◌, ◌∙◌, ◌∷◌, Bool, List, None, Some, Result, Ok, Err, [], ap, arith, false, if◌then◌else◌, inl, inr, length, length-append, lit<, nat_le, refl, replicate, subst, sym, true, ℕ}
+use Rattle.std.proofs.Common.{◌≡◌, ◌<◌, ◌==◌, ◌+◌, ◌-◌, ◌∙◌, ◌∷◌, Bool, List, None, Some, Result, Ok, Err, [], ap, arith, false, if◌then◌else◌, length, length-append, lit<, nat_le, refl, replicate, subst, sym, true, ℕ}
 use Rattle.std.proofs.lemmas.List.{length-replicate}
 use Rattle.digits_core.specs.Digits.{AreDigits, padded}
 use Rattle.digits_core.specs.Upce.{IsUpceOf, upce_expanded}

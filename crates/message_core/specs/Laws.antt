@@ -1,5 +1,5 @@
 -- What the definitions of messages and of Digital Links say together.
-use Rattle.std.specs.Prelude.{◌≡◌, ◌↔◌, ◌⊎◌, ◌≤◌, ◌<◌, ◌-◌, ◌+◌, ◌++◌, ℕ, true, List, [], ◌∷◌, Option, Some, Result, Ok, Err, codes}
+use Rattle.std.specs.Prelude.{◌≡◌, ◌↔◌, ◌⊎◌, ◌≤◌, ◌<◌, ◌-◌, ◌+◌, ◌++◌, ℕ, true, List, [], ◌∷◌, Option, Some, Ok, Err, codes}
 use Rattle.digits_core.specs.Digits.{AreAsciiDigits, digits_of}
 use Rattle.digits_core.specs.Upce.{IsUpceOf}
 use Rattle.element_core.specs.Elements.{Entry, gtin_entry, pairs_text}

@@ -1,5 +1,5 @@
 -- UPC-E, as scanners send it that do not expand it (GS1 General Specifications, section 5.2.2.4).
-use Rattle.std.specs.Prelude.{◌≡◌, ◌⊎◌, ◌==◌, ◌++◌, ◌-◌, ℕ, List, [], ◌∷◌, Option, Some, None, Result, Ok, Err, length, slice_index, slice_range, if◌then◌else◌}
+use Rattle.std.specs.Prelude.{◌≡◌, ◌==◌, ◌-◌, ℕ, List, [], ◌∷◌, Option, Some, None, Result, Ok, Err, length, slice_index, slice_range, if◌then◌else◌}
 use Rattle.digits_core.specs.Digits.{digits_of}
 use Rattle.digits_core.specs.Gtins.{first_other}
 use Rattle.digits_core.specs.Payloads.{not_digits}

@@ -24,6 +24,7 @@ pub use laws::{
     files_are_refused, grids_keep_limits, headers_are_read, headers_are_refused, one_bitmap,
     one_drawn, one_list_of_sheets, one_printed, printed_is_read, written_is_read,
 };
+pub use line::darken;
 pub use pbm::print::print_pbm;
 pub use pbm::read::{SheetIntake, read_pbm, read_sheets};
 pub use pbm::write::write_pbm;

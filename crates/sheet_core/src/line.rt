@@ -52,8 +52,8 @@ fn darken_few(line: &mut [u8], from: usize, count: usize)
     line[first + 1] |= bits_of(0, end.saturating_sub(8));
 }
 
-/// Makes `count` dots dark, from dot `from` on, byte by byte.
-fn darken(line: &mut [u8], from: usize, count: usize)
+/// Makes `count` dots of a line dark, from dot `from` on, byte by byte.
+pub fn darken(line: &mut [u8], from: usize, count: usize)
     requires within { from + count ≤ 8 * length line.old }
     requires few { from + count < 2 ^ 16 }
     ensures { (k : ℕ) → dot_at line.new k ≡ ((nat_le from k && nat_lt k (from + count)) || dot_at line.old k) }

@@ -48,15 +48,6 @@ fn elements_are_found_in_their_text(rt: HostRuntime) -> Result<(), Fail> {
     Ok(())
 }
 
-#[test]
-fn the_line_stands_after_what_is_there(rt: HostRuntime) -> Result<(), Fail> {
-    let elements = parsed(b"010950110153000310AB\x1D17261231")?;
-    let mut line = String::from_str(rt.alloc(), "hri ")?;
-    elements.push_hri(&mut line)?;
-    is_equal(&rt, line.as_str(), "hri (01)09501101530003(10)AB(17)261231");
-    Ok(())
-}
-
 /// A text 48 times.
 fn repeated(alloc: Global, text: &str) -> Result<String, Fail> {
     let mut all = String::new(alloc);
@@ -67,12 +58,11 @@ fn repeated(alloc: Global, text: &str) -> Result<String, Fail> {
 }
 
 /// That elements have this human-readable line.
-fn has_line<R: AllocGlobal + Abort>(rt: &R, elements: &Elements, wanted: &str) -> Result<(), Fail> {
+fn has_line<R: Abort>(rt: &R, elements: &Elements, wanted: &str) {
     is_equal(rt, elements.hri().as_str(), wanted);
-    let mut line = String::new(rt.alloc());
-    elements.push_hri(&mut line)?;
+    let mut line = elements.pairs();
+    elements.write_hri(&mut line);
     is_equal(rt, line.as_str(), wanted);
-    Ok(())
 }
 
 #[test]
@@ -81,22 +71,15 @@ fn the_most_elements_fill_the_line(rt: HostRuntime) -> Result<(), Fail> {
     let elements = parsed(repeated(alloc, "2007")?.as_str().as_bytes())?;
     is_equal(&rt, elements.len(), 48);
     is_element(&rt, &element(&elements, 47)?, "20", "07", false);
-    has_line(&rt, &elements, repeated(alloc, "(20)07")?.as_str())
+    has_line(&rt, &elements, repeated(alloc, "(20)07")?.as_str());
+    Ok(())
 }
 
 /// That the elements of a text have this human-readable line and these pairs.
-fn has_pairs<R: AllocGlobal + Abort>(
-    rt: &R,
-    text: &[u8],
-    line: &str,
-    pairs: &str,
-) -> Result<(), Fail> {
+fn has_pairs<R: Abort>(rt: &R, text: &[u8], line: &str, pairs: &str) -> Result<(), Fail> {
     let elements = parsed(text)?;
     is_equal(rt, elements.hri().as_str(), line);
     is_equal(rt, elements.pairs().as_str(), pairs);
-    let mut pushed = String::new(rt.alloc());
-    elements.push_pairs(&mut pushed)?;
-    is_equal(rt, pushed.as_str(), pairs);
     Ok(())
 }
 
@@ -115,20 +98,6 @@ fn pairs_tell_what_a_line_does_not(rt: HostRuntime) -> Result<(), Fail> {
         "(01)09501101530003",
         "01=09501101530003",
     )
-}
-
-#[test]
-fn pairs_are_put_into_a_buffer(rt: HostRuntime) -> Result<(), Fail> {
-    let elements = parsed(b"10A\x1D17261231")?;
-    let mut out = [0; 20];
-    let count = elements.put_pairs(0, &mut out);
-    is_equal(&rt, count, 14);
-    is_equal(
-        &rt,
-        out.as_slice(),
-        b"10=A\t17=261231\0\0\0\0\0\0".as_slice(),
-    );
-    Ok(())
 }
 
 /// The year, the month and the day of an element.

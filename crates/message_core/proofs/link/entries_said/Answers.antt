@@ -1,5 +1,5 @@
 -- The elements of the path and of the query are put together, and said as that list, or as its first fault.
-use Rattle.std.proofs.Common.{◌≡◌, ◌∙◌, ◌++◌, ◌∷◌, None, Some, Ok, ap, sym}
+use Rattle.std.proofs.Common.{◌≡◌, ◌∙◌, ◌++◌, None, Some, Ok, ap, sym}
 use Rattle.element_core.specs.Pairs.{list_fault}
 use Rattle.message_core.specs.Links.{parameters, path_entries, query_entries, segments}
 use Rattle.message_core.proofs.LinkFacts.{both_put, fitting}

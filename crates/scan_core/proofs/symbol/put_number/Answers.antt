@@ -1,5 +1,5 @@
 use Rattle.std.proofs.Common.{refl}
-use Rattle.scan_core.specs.Reading.ReadSymbol.{BadCheckDigit, Number}
+use Rattle.scan_core.specs.Reading.ReadSymbol.{Number}
 use Rattle.scan_core.proofs.symbol.put_number.Goals as goal
 
 pub returns-in-Found-clause-found : goal.returns-in-Found-clause-found

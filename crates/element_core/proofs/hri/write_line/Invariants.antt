@@ -2,7 +2,7 @@ use Rattle.std.proofs.Common.{◌≡◌, ◌++◌, length}
 use Rattle.element_core.specs.Elements.{hri}
 use Rattle.element_core.specs.Shown.{shown_elements}
 use Rattle.element_core.specs.inner.Walks.{AreAscii}
-use Rattle.element_core.proofs.hri.line_of.Given as goal
+use Rattle.element_core.proofs.hri.write_line.Given as goal
 
 abbrev pub invariant-loop-front : goal.invariant-loop-front
 invariant-loop-front l = record {
