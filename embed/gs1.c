@@ -28,6 +28,11 @@ size_t gs1_c_symbol(uint32_t kind, const uint8_t *text, size_t length, uint16_t 
 size_t gs1_c_title(const uint8_t *ai, size_t length, uint8_t *out, size_t room);
 uint32_t gs1_c_status(const uint8_t *line, size_t length);
 _Bool gs1_c_next(const uint8_t *line, size_t length, struct gs1_c_place *place);
+uint32_t gs1_c_read_message(const uint8_t *text, size_t length, uint16_t year, struct gs1_answer *answer);
+uint32_t gs1_c_read_elements(const uint8_t *text, size_t length, uint16_t year, struct gs1_answer *answer);
+uint32_t gs1_c_read_gtin(const uint8_t *digits, size_t length, uint16_t year, struct gs1_answer *answer);
+uint32_t gs1_c_read_row(const uint16_t *widths, size_t count, uint16_t year, struct gs1_answer *answer);
+uint32_t gs1_c_read_dots(const uint8_t *bits, size_t bytes, uint32_t count, uint16_t year, struct gs1_answer *answer);
 
 /* No items, aligned for each type. Nothing is read or written there, since the count is 0. */
 static const uint64_t none;
@@ -137,4 +142,27 @@ int gs1_next(struct gs1_bytes *rest, struct gs1_element *element) {
     rest->at += place.end;
     rest->count -= place.end;
     return 1;
+}
+
+/* Without a place for the answer, only the number of the error is returned. */
+#define INTO(answer) (answer) ? (answer) : &(struct gs1_answer){0}
+
+int gs1_read_message(const uint8_t *text, size_t length, uint16_t year, struct gs1_answer *answer) {
+    return (int)gs1_c_read_message(READ(uint8_t, text, length), year, INTO(answer));
+}
+
+int gs1_read_elements(const uint8_t *text, size_t length, uint16_t year, struct gs1_answer *answer) {
+    return (int)gs1_c_read_elements(READ(uint8_t, text, length), year, INTO(answer));
+}
+
+int gs1_read_gtin(const uint8_t *digits, size_t length, uint16_t year, struct gs1_answer *answer) {
+    return (int)gs1_c_read_gtin(READ(uint8_t, digits, length), year, INTO(answer));
+}
+
+int gs1_read_row(const uint16_t *widths, size_t count, uint16_t year, struct gs1_answer *answer) {
+    return (int)gs1_c_read_row(READ(uint16_t, widths, count), year, INTO(answer));
+}
+
+int gs1_read_dots(const uint8_t *bits, uint32_t count, uint16_t year, struct gs1_answer *answer) {
+    return (int)gs1_c_read_dots(READ(uint8_t, bits, bytes_of(count)), count, year, INTO(answer));
 }

@@ -177,6 +177,69 @@ size_t gs1_label(enum gs1_kind kind, const uint8_t *text, size_t length, uint16_
 size_t gs1_symbol(enum gs1_kind kind, const uint8_t *text, size_t length, uint16_t year, uint8_t *out,
                   size_t room);
 
+/* ---- Answers as values. Each call of this part fills a struct of yours, and returns `fault`: 0, or the number of the error. */
+
+/* The kind of a symbol. In rows and dots it is known exactly. Of the text of a scanner it is what the identifier says; behind `]E0` it is a
+ * guess from the number of digits, since a scanner may send a UPC-E as the 12 digits of a UPC-A. */
+enum gs1_symbol_kind {
+    GS1_SYMBOL_UNKNOWN = 0, GS1_SYMBOL_EAN13 = 1, GS1_SYMBOL_UPCA = 2, GS1_SYMBOL_UPCE = 3, GS1_SYMBOL_EAN8 = 4, GS1_SYMBOL_ITF14 = 5,
+    GS1_SYMBOL_GS1128 = 6, GS1_SYMBOL_DATABAR = 7, GS1_SYMBOL_DATAMATRIX = 8, GS1_SYMBOL_QR_CODE = 9, GS1_SYMBOL_DOTCODE = 10
+};
+
+/* What an element names: the sum of these. */
+enum gs1_named { GS1_NAMES_DAY = 1, GS1_NAMES_TIME = 2, GS1_NAMES_LAST_DAY = 4 };
+
+/* No place, no GTIN, no number. */
+#define GS1_NO_PLACE 65535
+#define GS1_NONE 255
+
+/* A day, or zeros. */
+struct gs1_day {
+    uint16_t year;
+    uint8_t month, day;
+};
+
+/* Where an element stands in the text of its answer, and what it names. */
+struct gs1_place {
+    uint8_t ai, value, end;       /* the indices of the first byte of its AI, of its value, and behind its value */
+    uint8_t named;                /* enum gs1_named */
+    struct gs1_day day, last_day; /* the last day of a period (AI 7007) */
+    uint8_t hour, minute, second;
+    uint8_t number, decimals;     /* the index of the first digit of a count, a measure or an amount, behind a currency, and how many of
+                                     its digits are decimals; GS1_NONE if it is none */
+    uint8_t reserved;
+};
+
+/* What a barcode says, or why it says nothing. Only `length` bytes of the text and `count` elements are written. */
+struct gs1_answer {
+    uint16_t fault, place;        /* the number of the error, or 0; its place, or GS1_NO_PLACE */
+    uint8_t symbol;               /* enum gs1_symbol_kind */
+    uint8_t count, length;        /* of the elements; of the text */
+    uint8_t gtin;                 /* the index of the element of AI 01; GS1_NONE if there is none, or two whose values differ */
+    char identifier[4];           /* the symbology identifier, such as "]C1", with a terminating 0; "" if there is none */
+    uint8_t text[192];            /* the element string of these elements, with a separator only where one must stand */
+    struct gs1_place element[48];
+};
+
+/* This layout does not change within a major version. */
+typedef char gs1_place_size[sizeof(struct gs1_place) == 18 ? 1 : -1];
+typedef char gs1_answer_size[sizeof(struct gs1_answer) == 1068 ? 1 : -1];
+
+/* What the text of a scanner says, as gs1_scan reads it. */
+int gs1_read_message(const uint8_t *text, size_t length, uint16_t year, struct gs1_answer *answer);
+
+/* The elements of an element string. Byte 29 is the separator. */
+int gs1_read_elements(const uint8_t *text, size_t length, uint16_t year, struct gs1_answer *answer);
+
+/* A GTIN that is written with 8, 12, 13 or 14 digits, as the element of AI 01. */
+int gs1_read_gtin(const uint8_t *digits, size_t length, uint16_t year, struct gs1_answer *answer);
+
+/* What a scanned row says, given as for gs1_row. */
+int gs1_read_row(const uint16_t *widths, size_t count, uint16_t year, struct gs1_answer *answer);
+
+/* What a row of packed dots says, given as for gs1_dots. */
+int gs1_read_dots(const uint8_t *bits, uint32_t count, uint16_t year, struct gs1_answer *answer);
+
 #ifdef __cplusplus
 }
 #endif

@@ -8,4 +8,5 @@ pub mod Shown
 pub mod Status
 pub mod Symbols
 pub mod Titles
+pub mod Values
 pub mod inner

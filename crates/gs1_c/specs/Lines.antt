@@ -12,7 +12,7 @@ use Rattle.scan_core.specs.Bits.{dots_at}
 use Rattle.scan_core.specs.Row.{IsRow, dots_of, runs_fault}
 use Rattle.scan_core.specs.declared.answer.Answer.{Answer}
 use Rattle.scan_core.specs.declared.fault.RunFault.{RunFault}
-use Rattle.scan_core.specs.declared.fault.RunFault.TheVariants.{BadRuns, TooWide}
+pub use Rattle.answer_core.specs.Rows.{packed_fault}
 
 -- a reference year, 1951 to 2149, and whether every AI is read
 abbrev pub year_terms : Bool → ℕ → Option Terms
@@ -53,10 +53,6 @@ abbrev pub IsRowLine : Form → ℕ → List ℕ → List ℕ → Type 0
 IsRowLine form number widths line = IsLineUnder number (λ terms. IsWidthsLine form terms widths (runs_fault widths)) line
 
 -- ---- packed dots
-
--- why this many bytes have no row of this many dots, if they have none: not all of them are there, or they are more than a row has
-abbrev pub packed_fault : ℕ → ℕ → Option RunFault
-packed_fault bytes count = if nat_lt (8 * bytes) count then Some BadRuns else if nat_lt 65535 count then Some TooWide else None
 
 -- the answer to the row whose dots these are, under a reference year
 abbrev pub IsPackedAnswer : Terms → List ℕ → ℕ → Answer → Type 0

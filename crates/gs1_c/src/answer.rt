@@ -5,11 +5,9 @@ ghost use Rattle.gs1_c.specs.Lines.{packed_fault};
 ghost use Rattle.gs1_c.specs.inner.Lines.{IsFoundLine, IsPackedFound};
 
 use crate::buffer::{put_line, put_refusal};
+use answer_core::dots_in;
 use element_core::{Form, Year};
 use scan_core::{Found, RunFault, find_dots};
-
-/// The most dots of a row.
-const MOST_DOTS: u32 = 65_535;
 
 /// Puts the line of what was found in a row, with its elements in a form, or why there is no row.
 pub fn put_found(found: &Result<Found, RunFault>, year: Year, form: Form, out: &mut [u8]) -> usize
@@ -19,20 +17,6 @@ pub fn put_found(found: &Result<Found, RunFault>, year: Year, form: Form, out: &
         Ok(found) => put_line(&found.line(year, form), out),
         Err(fault) => put_refusal(fault.refusal(), out),
     }
-}
-
-/// How many dots a row has of this many packed dots, or why they are no row.
-pub fn dots_in(bits: &[u8], count: u32) -> Result<u16, RunFault>
-    ensures ok { IfOk result (λ dots. (packed_fault (length bits.now) count ≡ None) × (dots ≡ count) × (count ≤ 8 * length bits.now)) }
-    ensures err { IfErr result (λ fault. packed_fault (length bits.now) count ≡ Some fault) }
-{
-    if (bits.len() as u64) < u64::from(count.div_ceil(8)) {
-        return Err(RunFault::BadRuns);
-    }
-    if count > MOST_DOTS {
-        return Err(RunFault::TooWide);
-    }
-    Ok(count as u16)
 }
 
 /// What is found in a row of packed dots, or why they are no row.

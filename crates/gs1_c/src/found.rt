@@ -8,9 +8,9 @@ ghost use Rattle.scan_core.specs.Row.{runs_fault};
 ghost use Rattle.scan_core.specs.Windows.{AreTold};
 ghost use Rattle.scan_core.specs.declared.window.Window.{Window};
 
-use crate::answer::dots_in;
 use crate::buffer::put_refusal;
 use crate::line::{push, push_number, put_fitting};
+use answer_core::dots_in;
 use arrayvec::ArrayVec;
 use digits_core::put_at;
 use element_core::Year;

@@ -37,6 +37,7 @@ mod terms;
 #[cfg(test)]
 mod tests;
 mod titles;
+mod value;
 
 use answer::{find_packed, put_found};
 use buffer::{put, put_line, put_refusal, put_refused};

@@ -1,0 +1,11 @@
+-- What programs see of an answer.
+pub mod Answers
+pub mod Laws
+pub mod Named
+pub mod Numbers
+pub mod Places
+pub mod Reads
+pub mod Refusals
+pub mod Rows
+pub mod Symbols
+pub mod inner

@@ -1,0 +1,4 @@
+-- Definitions for the inside of the crate: types, private contracts and proofs name them, and no public contract reaches them.
+pub mod Answers
+pub mod Numbers
+pub mod Places

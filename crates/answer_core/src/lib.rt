@@ -1,0 +1,19 @@
+//! What barcodes say, as values of one layout, which programs in C, Python and JavaScript share (`gs1.h`).
+#![tactic(auto)]
+
+mod answer;
+mod gtin;
+mod laws;
+mod named;
+mod number;
+mod place;
+mod read;
+mod row;
+mod symbol;
+
+pub use answer::Answer;
+pub use laws::answers_tell_one;
+pub use named::Day;
+pub use place::{MOST_ELEMENTS, Place};
+pub use row::dots_in;
+pub use symbol::SymbolKind;

@@ -1,0 +1,42 @@
+//! Where the number of a value stands.
+ghost use Rattle.std.specs.Prelude.{◌≡◌, ◌≤◌, IfSome, option_map};
+ghost use Rattle.answer_core.specs.Numbers.{number_at};
+ghost use Rattle.answer_core.specs.inner.Numbers.{first_and_decimals};
+
+/// Where a number stands in a value.
+#[derive(Clone, Copy)]
+pub(crate) struct NumberPlace {
+    /// How many digits of a currency stand before it: none or three.
+    pub first: u8,
+    /// How many of its digits are decimals.
+    pub decimals: u8,
+}
+
+/// The place of the number in the values of an AI, if they have one: counts, measures, amounts and percentages
+/// (GS1 General Specifications, sections 3.6 and 3.7).
+pub(crate) fn number_at(ai: &[u8]) -> Option<NumberPlace>
+    ensures value { option_map first_and_decimals result ≡ number_at ai.now }
+    ensures short { IfSome result (λ p. p.first ≤ 3) }
+{
+    match ai {
+        [b'3', b'0' | b'7'] => Some(NumberPlace {
+            first: 0,
+            decimals: 0,
+        }),
+        [b'3', b'1'..=b'6', _, decimals @ b'0'..=b'9']
+        | [
+            b'3',
+            b'9',
+            b'0' | b'2' | b'4' | b'5',
+            decimals @ b'0'..=b'9',
+        ] => Some(NumberPlace {
+            first: 0,
+            decimals: decimals - b'0',
+        }),
+        [b'3', b'9', b'1' | b'3', decimals @ b'0'..=b'9'] => Some(NumberPlace {
+            first: 3,
+            decimals: decimals - b'0',
+        }),
+        _ => None,
+    }
+}

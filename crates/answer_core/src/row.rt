@@ -1,0 +1,73 @@
+//! Answers to rows.
+ghost use Rattle.std.specs.Prelude.{◌≡◌, ◌≤◌, ◌*◌, IfErr, None, Some, IfOk, length};
+ghost use Rattle.answer_core.specs.Rows.{IsDotsAnswer, IsNoRow, IsWidthsAnswer, TellsRowAnswer, packed_fault};
+
+use crate::answer::Answer;
+use crate::symbol::{SymbolKind, as_four, carrier_symbol};
+use element_core::Year;
+use scan_core::{Answer as RowAnswer, RunFault, find_dots, find_widths};
+
+/// The most dots of a row.
+const MOST_DOTS: u32 = 65_535;
+
+/// How many dots a row has of this many packed dots, or why they are no row.
+pub fn dots_in(bits: &[u8], count: u32) -> Result<u16, RunFault>
+    ensures ok { IfOk result (λ dots. (packed_fault (length bits.now) count ≡ None) × (dots ≡ count) × (count ≤ 8 * length bits.now)) }
+    ensures err { IfErr result (λ fault. packed_fault (length bits.now) count ≡ Some fault) }
+{
+    if (bits.len() as u64) < u64::from(count.div_ceil(8)) {
+        return Err(RunFault::BadRuns);
+    }
+    if count > MOST_DOTS {
+        return Err(RunFault::TooWide);
+    }
+    Ok(count as u16)
+}
+
+impl Answer {
+    /// Writes why there is no row.
+    fn tell_no_row(&mut self, fault: RunFault)
+        ensures { IsNoRow fault self.new }
+    {
+        self.name(SymbolKind::Unknown, [0; 4]);
+        self.refuse(fault.refusal());
+    }
+
+    /// Writes what a row says.
+    fn tell_row(&mut self, said: &RowAnswer, terms: Year)
+        ensures { TellsRowAnswer terms said.now self.new }
+    {
+        match said {
+            RowAnswer::Read { carrier, elements } => {
+                let symbol = carrier_symbol(*carrier, elements.bytes());
+                self.name(symbol, as_four(carrier.identifier()));
+                self.tell(elements, terms);
+            }
+            RowAnswer::Refused(fault) => {
+                self.name(SymbolKind::Unknown, [0; 4]);
+                self.refuse(fault.refusal());
+            }
+        }
+    }
+
+    /// What the row of these widths in dots says, light first and last, as `read_row` reads it; or why they are no row.
+    pub fn read_widths(&mut self, widths: &[u16], terms: Year)
+        ensures { IsWidthsAnswer terms widths.now self.new }
+    {
+        match &find_widths(widths) {
+            Ok(found) => self.tell_row(&found.answer(terms), terms),
+            Err(fault) => self.tell_no_row(*fault),
+        }
+    }
+
+    /// What a row of this many packed dots says: the first dot of a byte is its high bit, and 1 is dark; or why they are
+    /// no row.
+    pub fn read_dots(&mut self, bits: &[u8], count: u32, terms: Year)
+        ensures { IsDotsAnswer terms bits.now count self.new }
+    {
+        match dots_in(bits, count) {
+            Ok(dots) => self.tell_row(&find_dots(bits, dots).answer(terms), terms),
+            Err(fault) => self.tell_no_row(fault),
+        }
+    }
+}

@@ -1,0 +1,181 @@
+/* Compares the answers of the calls that fill a struct with the lines of the other calls: of the texts, a line each, of standard input.
+ * `^` stands for itself, and \xNN for a byte. The last line is the counts, and the status is 0 if none differs. */
+#include <gs1.h>
+#include <stdio.h>
+#include <stdlib.h>
+#include <string.h>
+
+static unsigned long asked, wrong;
+
+/* A line that is being written. */
+struct line {
+    char at[1200];
+    size_t count;
+};
+
+static void put(struct line *line, const void *bytes, size_t count) {
+    memcpy(line->at + line->count, bytes, count);
+    line->count += count;
+}
+
+static void put_text(struct line *line, const char *text) {
+    put(line, text, strlen(text));
+}
+
+/* The elements as data. */
+static void put_pairs(struct line *line, const struct gs1_answer *answer) {
+    for (unsigned i = 0; i < answer->count; i++) {
+        const struct gs1_place *it = &answer->element[i];
+        if (i) put_text(line, "\t");
+        put(line, answer->text + it->ai, (size_t)(it->value - it->ai));
+        put_text(line, "=");
+        put(line, answer->text + it->value, (size_t)(it->end - it->value));
+    }
+}
+
+/* What gs1_date says of an element. */
+static void put_date(struct line *line, const struct gs1_place *it) {
+    char text[40];
+    if (!(it->named & GS1_NAMES_DAY)) {
+        put_text(line, "none");
+        return;
+    }
+    snprintf(text, sizeof text, "date %04u-%02u-%02u", it->day.year, it->day.month, it->day.day);
+    put_text(line, text);
+    if (!(it->named & GS1_NAMES_TIME)) return;
+    snprintf(text, sizeof text, " %02u:%02u:%02u", it->hour, it->minute, it->second);
+    put_text(line, text);
+}
+
+static void same(const char *what, const struct line *got, const uint8_t *wanted, size_t count) {
+    asked++;
+    if (got->count == count && !memcmp(got->at, wanted, count)) return;
+    if (++wrong <= 10) fprintf(stderr, "%s: %.*s, not %.*s\n", what, (int)got->count, got->at, (int)count, wanted);
+}
+
+static void same_number(const char *what, unsigned long got, unsigned long wanted) {
+    asked++;
+    if (got != wanted && ++wrong <= 10) fprintf(stderr, "%s: %lu, not %lu\n", what, got, wanted);
+}
+
+/* The place at the end of a line of an error, or GS1_NO_PLACE. */
+static unsigned long place_of(const uint8_t *line, size_t count) {
+    char text[GS1_LINE + 1];
+    memcpy(text, line, count);
+    text[count] = 0;
+    char *space = strrchr(text, ' ');
+    return space && space[1] >= '0' && space[1] <= '9' && strchr(text, ' ') != space ? strtoul(space + 1, NULL, 10) : GS1_NO_PLACE;
+}
+
+/* The days and the times. */
+static void compare_dates(const struct gs1_answer *answer, uint16_t year) {
+    for (unsigned i = 0; i < answer->count; i++) {
+        const struct gs1_place *it = &answer->element[i];
+        struct line pair = {.count = 0}, got = {.count = 0};
+        uint8_t wanted[64];
+        put(&pair, answer->text + it->ai, (size_t)(it->value - it->ai));
+        put_text(&pair, "=");
+        put(&pair, answer->text + it->value, (size_t)(it->end - it->value));
+        put_date(&got, it);
+        same("date", &got, wanted, gs1_date((const uint8_t *)pair.at, pair.count, year, wanted, sizeof wanted));
+    }
+}
+
+/* An answer beside the line of the call before. */
+static void compare(const char *what, int fault, const struct gs1_answer *answer, const char *word, const uint8_t *line, size_t count,
+                    uint16_t year) {
+    same_number(what, (unsigned long)fault, (unsigned long)gs1_status(line, count));
+    same_number(what, answer->fault, (unsigned long)fault);
+    if (fault) {
+        same_number("place", answer->place, place_of(line, count));
+        same_number("count", answer->count, 0);
+        return;
+    }
+    struct line got = {.count = 0};
+    put_text(&got, word ? word : answer->identifier[0] ? answer->identifier : "-");
+    put_text(&got, " ");
+    put_pairs(&got, answer);
+    same(what, &got, line, count);
+    compare_dates(answer, year);
+}
+
+static void compare_text(const uint8_t *text, size_t length, uint16_t year) {
+    struct gs1_answer answer;
+    uint8_t line[GS1_LINE];
+    memset(&answer, 0xa5, sizeof answer);
+    int fault = gs1_read_message(text, length, year, &answer);
+    compare("message", fault, &answer, NULL, line, gs1_scan(text, length, year, line, sizeof line), year);
+    memset(&answer, 0x5a, sizeof answer);
+    fault = gs1_read_elements(text, length, year, &answer);
+    compare("elements", fault, &answer, "data", line, gs1_text_elements(text, length, year, line, sizeof line), year);
+    fault = gs1_read_gtin(text, length, 2026, &answer);
+    size_t count = gs1_gtin(text, length, line, sizeof line);
+    same_number("gtin", (unsigned long)fault, (unsigned long)gs1_status(line, count));
+    if (!fault) {
+        struct line got = {.count = 0};
+        put_text(&got, "gtin ");
+        put(&got, answer.text + answer.element[0].value, 14);
+        same("gtin", &got, line, count);
+        same_number("index of the GTIN", answer.gtin, 0);
+    }
+}
+
+/* A row of widths, and the same as dots. */
+static void compare_row(const char *widths, uint16_t year) {
+    static uint16_t row[70000];
+    static uint8_t bits[8200];
+    size_t count = 0, dots = 0;
+    for (char *end; *widths && count < 70000; widths = end) {
+        row[count++] = (uint16_t)strtoul(widths, &end, 10);
+        if (end == widths) return;
+    }
+    struct gs1_answer answer;
+    uint8_t line[GS1_LINE];
+    int fault = gs1_read_row(row, count, year, &answer);
+    compare("row", fault, &answer, NULL, line, gs1_row_elements(row, count, year, line, sizeof line), year);
+    memset(bits, 0, sizeof bits);
+    for (size_t i = 0; i < count; i++)
+        for (unsigned k = 0; k < row[i] && dots < 65000; k++, dots++)
+            if (i % 2) bits[dots / 8] |= (uint8_t)(0x80 >> dots % 8);
+    fault = gs1_read_dots(bits, (uint32_t)dots, year, &answer);
+    compare("dots", fault, &answer, NULL, line, gs1_dots_elements(bits, (uint32_t)dots, year, line, sizeof line), year);
+}
+
+/* The bytes of a line of input, its escapes undone. */
+static size_t bytes_of(const char *line, uint8_t *out) {
+    size_t count = 0;
+    while (*line) {
+        unsigned byte;
+        if (line[0] == '\\' && line[1] == 'x' && sscanf(line + 2, "%2x", &byte) == 1) {
+            out[count++] = (uint8_t)byte;
+            line += 4;
+        } else {
+            out[count++] = (uint8_t)*line++;
+        }
+    }
+    return count;
+}
+
+int main(int count, char **words) {
+    static char line[400000];
+    static uint8_t text[400000];
+    int rows = count > 1 && !strcmp(words[1], "rows");
+    while (fgets(line, sizeof line, stdin)) {
+        line[strcspn(line, "\n")] = 0;
+        if (rows) {
+            const char *comma = strchr(line, ',');
+            compare_row(comma ? comma + 1 : line, 2026);
+            continue;
+        }
+        size_t length = bytes_of(line, text);
+        compare_text(text, length, 2026);
+        compare_text(text, length, GS1_EVERY_AI | 2026);
+        compare_text(text, length, 1950);
+    }
+    struct gs1_answer answer;
+    same_number("no text", (unsigned long)gs1_read_message(NULL, 3, 2026, NULL), GS1_FAULT_KIND);
+    same_number("no row", (unsigned long)gs1_read_row(NULL, 3, 2026, &answer), GS1_FAULT_BAD_RUNS);
+    same_number("no dots", (unsigned long)gs1_read_dots(NULL, 9, 2026, &answer), GS1_FAULT_BAD_RUNS);
+    printf("%lu answers as values, %lu differ\n", asked, wrong);
+    return wrong ? 1 : 0;
+}
