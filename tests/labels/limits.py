@@ -5,6 +5,8 @@ import resource
 import subprocess
 import sys
 
+from plain_xlsx import write_xlsx
+
 WORK = sys.argv[2]
 FAULTS = []
 
@@ -14,7 +16,7 @@ def checked(text):
 
 
 def measure(name, words, seconds, megabytes=0):
-    """Runs noriladle three times in a process that reports time and memory, and compares the best run with the limits."""
+    """Runs noriladle three times in a process of its own, compares the best run with the limits, and returns its seconds."""
     best = (1e9, 1e9)
     for _ in range(3):
         done = subprocess.run([sys.executable, __file__, "", WORK, "run", *words], stdout=subprocess.DEVNULL, stderr=subprocess.PIPE)
@@ -26,6 +28,7 @@ def measure(name, words, seconds, megabytes=0):
     print(f"{name}: {best[0]:.2f} s of {seconds}, {best[1]:.0f} MB{f' of {megabytes}' if megabytes else ''}")
     if is_wrong:
         FAULTS.append(f"{name}: {best}")
+    return best[0]
 
 
 def main():
@@ -33,16 +36,20 @@ def main():
     names = ["Haferkekse", "Roggenbrot 500 g", "Apfelsaft 1 l", "Blütenhonig aus der Lüneburger Heide, cremig, 500 g", "Öl"]
     rows = [f"{checked(f'4012345{number:05}')};{chance.choice(names)} {number};{chance.randrange(20)},{chance.randrange(100):02} €\n"
             for number in range(10_000)]
-    for count in (1_000, 10_000):
+    for count in (1_000, 5_000, 10_000):
         with open(os.path.join(WORK, f"{count}.csv"), "w", encoding="utf-8") as file:
             file.writelines(["ean;name;price\n", *rows[:count]])
+    cells = [line.rstrip().split(";") for line in ["ean;name;price", *rows[:5_000]]]
+    write_xlsx(os.path.join(WORK, "5000.xlsx"), cells)
     pdf = os.path.join(WORK, "many.pdf")
     measure("start", ["--version"], 0.15)
     measure("labels of 1,000 lines", ["labels", os.path.join(WORK, "1000.csv"), "-o", pdf], 2.5)
     measure("labels of 10,000 lines", ["labels", os.path.join(WORK, "10000.csv"), "-o", pdf], 15, 200)
+    seconds = measure("labels of 5,000 lines", ["labels", os.path.join(WORK, "5000.csv"), "-o", pdf], 7.5)
+    measure("the same lines as .xlsx", ["labels", os.path.join(WORK, "5000.xlsx"), "-o", pdf], round(2.5 * seconds, 2))
     measure("check of 10,000 lines", ["check", os.path.join(WORK, "10000.csv")], 1)
     print("\n".join(FAULTS), file=sys.stderr, end="\n" if FAULTS else "")
-    print(f"4 limits of time and memory, {len(FAULTS)} broken")
+    print(f"6 limits of time and memory, {len(FAULTS)} broken")
     sys.exit(1 if FAULTS else 0)
 
 
