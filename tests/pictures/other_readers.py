@@ -1,8 +1,15 @@
-"""Reads a picture's file with zbarimg and ZXingReader; answers have the form of pictures.Symbol.says."""
+"""Reads a picture's file with zbarimg and ZXingReader; answers have the form of pictures.Symbol.says.
+
+They are asked for the library's kinds alone. `newest` gives those of a folder that fetch_readers has filled, in place of the system's.
+"""
+import os
 import re
 import subprocess
 
 import pictures
+
+ZBAR_KINDS = ("-Sdisable", *(f"-S{kind}.enable" for kind in ("ean13", "ean8", "upca", "upce", "i25", "code128")))
+ZXING_KINDS = "EAN13,EAN8,UPCA,UPCE,ITF,Code128"
 
 
 def run(*words):
@@ -10,23 +17,32 @@ def run(*words):
 
 
 def said(name, read):
-    """Writes a number with 14 digits, and removes separators."""
+    """Writes a number with 14 digits, without the add-on that may stand beside it, and removes separators."""
     if "128" in name:
         return read.replace("\x1d", "")
+    read = read.partition(" ")[0][:13] if name == "EAN-13" else read
     if name.startswith("UPC") and len(read) == 8:
         read = pictures.gtin12(read)
     return read.zfill(14)
 
 
-def by_zbarimg(path):
-    lines = run("zbarimg", "--quiet", "--nodbus", path).splitlines()
+def by_zbarimg(path, program="zbarimg"):
+    lines = run(program, "--quiet", "--nodbus", *ZBAR_KINDS, path).split("\n")
     return [said(*line.partition(":")[::2]) for line in lines if ":" in line]
 
 
-def by_zxing(path):
-    told = run("ZXingReader", path)
+def by_zxing(path, program="ZXingReader", option="-format"):
+    told = run(program, option, ZXING_KINDS, path)
     names, bytes_read = (re.findall(rf"^{word}: +(.*?) *$", told, re.MULTILINE) for word in ("Format", "Bytes"))
     return [said(name, bytes.fromhex(read).decode("latin-1")) for name, read in zip(names, bytes_read) if name != "None"]
 
 
 OTHERS = {"zbarimg": by_zbarimg, "ZXingReader": by_zxing}
+
+
+def newest(folder):
+    """Those of a folder, by their names, or the system's if it is not there."""
+    if not os.path.isdir(folder):
+        return OTHERS
+    zbarimg, zxing = (os.path.join(folder, name) for name in OTHERS)
+    return {"zbarimg": lambda path: by_zbarimg(path, zbarimg), "ZXingReader": lambda path: by_zxing(path, zxing, "-formats")}
