@@ -44,9 +44,9 @@ def gtin12(upce):
 
 
 class Symbol:
-    """A symbol of zint's, dark on light, with its quiet zones, and what it says."""
+    """A symbol of zint's, dark on light, with its quiet zones, and what it says. It may have more words for zint."""
 
-    def __init__(self, kind, text, path):
+    def __init__(self, kind, text, path, *words):
         self.kind = kind
         if kind == "gs1128":
             self.line = f"{KINDS[kind].identifier} {text}"
@@ -54,8 +54,12 @@ class Symbol:
         else:
             self.says = (gtin12(text) if kind == "upce" else text).zfill(14)
             self.line = f"{KINDS[kind].identifier} (01){self.says}"
-        data = text.replace("(", "[").replace(")", "]") if kind == "gs1128" else text[:-1]
-        self.image = drawn(KINDS[kind].zint, data, path)
+        self.image = drawn(KINDS[kind].zint, data_of(kind, text), path, *words)
+
+
+def data_of(kind, text):
+    """What zint is given to draw a text."""
+    return text.replace("(", "[").replace(")", "]") if kind == "gs1128" else text[:-1]
 
 
 def drawn(barcode, data, path, *words):

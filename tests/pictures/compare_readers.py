@@ -1,8 +1,9 @@
-"""Asks the library (from C, Python and Node), zbarimg and ZXingReader what pictures show, and prints what each reads by group.
+"""Asks the library (from C, Python and Node), zbarimg and ZXingReader what pictures show, and prints what each reads.
 
-Usage: compare_readers.py LINES PACKAGE WORK KEPT [GROUP...]. LINES is the program of picture_lines.c, PACKAGE the npm package, WORK a folder for
-the pictures, and KEPT the folder of what was fetched. With groups it reads these alone, and tests no limit. Its last lines are the limits, each
-with what was seen.
+Usage: compare_readers.py LINES PACKAGE WORK KEPT [--look] [GROUP...]. LINES is the program of picture_lines.c, PACKAGE
+the npm package, WORK a folder for the pictures, and KEPT the folder of what was fetched. With --look it takes those
+pictures that come from a seed, from the seed to look at. With --look or groups it tests no limit. Its last lines are
+the limits, each with what was seen.
 """
 import concurrent.futures
 import os
@@ -11,6 +12,7 @@ import time
 
 HERE = os.path.dirname(os.path.abspath(__file__))
 sys.path[:0] = [os.path.join(HERE, "..", "page"), os.path.join(HERE, "..", "..", "python")]
+import broken
 import hard_pictures
 import pictures
 import sets
@@ -94,7 +96,8 @@ class Comparison:
             for path, got in zip(paths, self.library.read(paths)):
                 if got:
                     found += 1
-                    print(f"wrong: {os.path.basename(path)}: {list(map(line_of, got))}, which is no symbol", file=sys.stderr)
+                    lines = list(map(line_of, got))
+                    print(f"wrong: {os.path.basename(path)}: {lines}, which is no symbol", file=sys.stderr)
             none[of] = len(paths), found
             self.sources.remove(paths)
         return none
@@ -114,9 +117,11 @@ def limits(seen, none, slow):
     """Each limit, what was seen, and whether it holds."""
     for of, count in seen.by_set.items():
         right, least = count.right["library"], sets.LEAST[of]
-        yield f"{of}, read, at least {least} of 100", f"{right} of {count.symbols}", 100 * right >= least * count.symbols
+        enough = 100 * right >= least * count.symbols
+        yield f"{of}, read, at least {least} of 100", f"{right} of {count.symbols}", enough
         for reader in OTHERS:
-            yield f"{of}, no fewer than {reader}", f"{right}, {count.right[reader]}", right >= count.right[reader]
+            more = right > count.right[reader] or least == 100 and right == count.symbols
+            yield f"{of}, more than {reader}, or all", f"{right}, {count.right[reader]}", more
         yield f"{of}, pictures with something else read, none", count.wrong["library"], count.wrong["library"] == 0
     fewer = [name for name, count in seen.by_group.items()
              if name not in hard_pictures.NOT_HELD and count.right["library"] < max(count.right.values())]
@@ -124,25 +129,35 @@ def limits(seen, none, slow):
     for of, (count, found) in none.items():
         yield f"{of}, symbols found in {count}, none", found, found == 0
     yield f"the slowest of 12 million dots, at most {SLOWEST} s", f"{slow[0]:.2f} ({slow[1]})", slow[0] <= SLOWEST
+    rows = [broken.modules_of(symbol) for symbol in seen.sources.symbols]
+    found = sum(broken.whole(row) and broken.whole(row[::-1]) for row in rows)
+    search = "whole symbols of zint's that the search in broken ones finds, all"
+    yield search, f"{found} of {len(rows)}", found == len(rows)
     library = seen.library
-    alike = library.differing == 0 and library.asked > 3800
+    alike = library.differing == 0 and library.asked > 8200
     yield f"of {library.asked} pictures Python, C and Node answer alike, of all", "all" if alike else "not all", alike
 
 
 def main():
     program, package, work, kept, *names = sys.argv[1:]
-    sources = sets.Sources(pictures.symbols(work), work, kept)
+    look = "--look" in names
+    names = [name for name in names if name != "--look"]
+    sources = sets.Sources(pictures.symbols(work), work, kept, look)
     with concurrent.futures.ThreadPoolExecutor(2) as pool:
         seen = Comparison(sources, Library(program, package), newest(os.path.join(kept, "sid")), pool)
         seen.table([one for one in sources.groups() if not names or one[0] in names])
         if names:
             return 0
         none = seen.without()
+    if look:
+        print(*(f"{of}: {found} of {count} with a symbol found" for of, (count, found) in none.items()), sep="\n")
+        return 0
     kept_limits = missed = 0
     for asked, got, holds in limits(seen, none, slowest()):
         kept_limits, missed = kept_limits + holds, missed + (not holds)
         print(f"{'holds' if holds else 'MISSED'}: {asked}: {got}")
-    print(f"{seen.library.asked} pictures read, {kept_limits} limits hold, {missed} do not, {sources.skipped} pictures skipped")
+    counts = f"{kept_limits} limits hold, {missed} do not, {sources.skipped} pictures skipped"
+    print(f"{seen.library.asked} pictures read, {counts}")
     return 1 if missed else 0
 
 

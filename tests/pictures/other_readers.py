@@ -1,6 +1,6 @@
 """Reads a picture's file with zbarimg and ZXingReader; answers have the form of pictures.Symbol.says.
 
-They are asked for the library's kinds alone. `newest` gives those of a folder that fetch_readers has filled, in place of the system's.
+They are asked for the library's kinds alone. `newest` gives those that fetch_readers has put into a folder.
 """
 import os
 import re
@@ -33,8 +33,8 @@ def by_zbarimg(path, program="zbarimg"):
 
 def by_zxing(path, program="ZXingReader", option="-format"):
     told = run(program, option, ZXING_KINDS, path)
-    names, bytes_read = (re.findall(rf"^{word}: +(.*?) *$", told, re.MULTILINE) for word in ("Format", "Bytes"))
-    return [said(name, bytes.fromhex(read).decode("latin-1")) for name, read in zip(names, bytes_read) if name != "None"]
+    names, texts = (re.findall(rf"^{word}: +(.*?) *$", told, re.MULTILINE) for word in ("Format", "Bytes"))
+    return [said(name, bytes.fromhex(text).decode("latin-1")) for name, text in zip(names, texts) if name != "None"]
 
 
 OTHERS = {"zbarimg": by_zbarimg, "ZXingReader": by_zxing}
@@ -45,4 +45,5 @@ def newest(folder):
     if not os.path.isdir(folder):
         return OTHERS
     zbarimg, zxing = (os.path.join(folder, name) for name in OTHERS)
-    return {"zbarimg": lambda path: by_zbarimg(path, zbarimg), "ZXingReader": lambda path: by_zxing(path, zxing, "-formats")}
+    return {"zbarimg": lambda path: by_zbarimg(path, zbarimg),
+            "ZXingReader": lambda path: by_zxing(path, zxing, "-formats")}

@@ -1,4 +1,4 @@
-"""The photographs of real.tsv that tests/pictures/fetch_real has put into a folder, with the number printed under the bars of each."""
+"""The photographs of real.tsv that fetch_real has put into a folder, with the number printed under the bars of each."""
 from __future__ import annotations
 
 import csv
