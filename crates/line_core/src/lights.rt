@@ -1,0 +1,233 @@
+//! Whether there is light beside the bars of a symbol.
+ghost use Rattle.std.specs.Prelude.{◌≡◌, ◌+◌, ◌-◌, ◌*◌, ◌<◌, ◌≤◌, ◌^◌, ℕ, IfSome, IsTrue, length};
+ghost use Rattle.line_core.specs.Ends.{at};
+ghost use Rattle.line_core.specs.Lights.{HasLight, IsLightBefore, IsLightBehind, both_at, width_of};
+
+use crate::symbols::Bars;
+
+/// How much light there is to be: `quiet` half modules, where a character of `halves` half modules is so wide; a light extreme and
+/// the dark one beside it, together; and how far samples are apart.
+#[derive(Clone, Copy)]
+pub(crate) struct Light {
+    step: u16,
+    both: u64,
+    width: u32,
+    halves: u16,
+    quiet: u16,
+}
+
+/// So many times a place.
+fn times(halves: u16, place: u64) -> u64
+    requires { place < 2 ^ 40 }
+    ensures value { result ≡ halves * place }
+    ensures few { result < 2 ^ 56 }
+{
+    u64::from(halves) * place
+}
+
+/// Where a sample is.
+fn place_of(step: u16, sample: usize) -> u64
+    requires { sample < 2 ^ 20 }
+    ensures value { result ≡ step * sample }
+    ensures few { result < 2 ^ 40 }
+{
+    u64::from(step) * sample as u64
+}
+
+/// Whether a sample is light, if it is half a module or more before an end.
+fn is_light_before(values: &[u32], light: Light, end: u32, sample: usize) -> bool
+    requires within { sample < length values.now }
+    requires few { length values.now < 2 ^ 20 }
+    ensures { IsTrue result → light.halves * (light.step * sample) + light.width ≤ light.halves * end → light.both ≤ 2 * at values.now sample }
+{
+    let here = times(light.halves, place_of(light.step, sample));
+    let last = times(light.halves, u64::from(end));
+    here + u64::from(light.width) > last || light.both <= 2 * u64::from(values[sample])
+}
+
+/// Whether there is light before an end.
+fn has_light_before(values: &[u32], light: Light, end: u32) -> bool
+    ensures { IsTrue result → IsLightBefore values.now light.step light.both end light.width light.halves light.quiet }
+{
+    if values.len() >= 1_048_576 || light.step == 0 || light.halves == 0 {
+        return false;
+    }
+    let wide = times(light.quiet, u64::from(light.width));
+    let all = times(light.halves, u64::from(end));
+    let unit = u64::from(light.halves) * u64::from(light.step);
+    let first = (all.saturating_sub(wide)).checked_div(unit).unwrap_or(0);
+    if first >= values.len() as u64 {
+        return false;
+    }
+    let first = first as usize;
+    if times(light.halves, place_of(light.step, first)) + wide > all {
+        return false;
+    }
+    'samples: for sample in first..values.len() {
+        if !is_light_before(values, light, end, sample) {
+            return false;
+        }
+    }
+    true
+}
+
+/// Whether a sample is light, if it is half a module or more behind an end.
+fn is_light_behind(values: &[u32], light: Light, end: u32, sample: usize) -> bool
+    requires within { sample < length values.now }
+    requires few { length values.now < 2 ^ 20 }
+    ensures { IsTrue result → light.halves * end + light.width ≤ light.halves * (light.step * sample) → light.both ≤ 2 * at values.now sample }
+{
+    let here = times(light.halves, place_of(light.step, sample));
+    let last = times(light.halves, u64::from(end));
+    last + u64::from(light.width) > here || light.both <= 2 * u64::from(values[sample])
+}
+
+/// Whether there is light behind an end.
+fn has_light_behind(values: &[u32], light: Light, end: u32) -> bool
+    ensures { IsTrue result → IsLightBehind values.now light.step light.both end light.width light.halves light.quiet }
+{
+    if values.len() >= 1_048_576 || light.step == 0 || light.halves == 0 {
+        return false;
+    }
+    let wide = times(light.quiet, u64::from(light.width));
+    let all = times(light.halves, u64::from(end));
+    let unit = u64::from(light.halves) * u64::from(light.step);
+    let last = (all + wide)
+        .checked_div(unit)
+        .unwrap_or(0)
+        .saturating_add(1);
+    if last >= values.len() as u64 {
+        return false;
+    }
+    let last = last as usize;
+    if all + wide > times(light.halves, place_of(light.step, last)) {
+        return false;
+    }
+    'samples: for sample in 0..last + 1 {
+        if !is_light_behind(values, light, end, sample) {
+            return false;
+        }
+    }
+    true
+}
+
+/// A dark and a light extreme that are next to each other, together.
+fn both_at(values: &[u32], turns: &[u32], number: usize) -> Option<u64>
+    requires { number < 2 ^ 40 }
+    ensures { IfSome result (λ both. both ≡ both_at values.now turns.now number) }
+{
+    if number + 1 >= turns.len() {
+        return None;
+    }
+    let one = turns[number] as usize;
+    let other = turns[number + 1] as usize;
+    if one >= values.len() || other >= values.len() {
+        return None;
+    }
+    Some(u64::from(values[one]) + u64::from(values[other]))
+}
+
+/// How far it is from an end over so many runs.
+fn width_of(ends: &[u32], first: usize, runs: usize) -> Option<u32>
+    requires first { first < 2 ^ 40 }
+    requires runs { runs < 2 ^ 40 }
+    ensures { IfSome result (λ width. width ≡ width_of ends.now first runs) }
+{
+    if first + runs >= ends.len() {
+        return None;
+    }
+    Some(ends[first + runs].saturating_sub(ends[first]))
+}
+
+/// A character: at which end it begins, its runs, and its half modules.
+#[derive(Clone, Copy)]
+pub(crate) struct Place {
+    pub(crate) first: usize,
+    pub(crate) runs: usize,
+    pub(crate) halves: u16,
+}
+
+/// Whether there is so much light before the bars, by the first character.
+fn has_light_at_left(bars: &Bars, character: Place, quiet: u16) -> bool
+    requires first { character.first < 2 ^ 40 }
+    requires runs { character.runs < 2 ^ 40 }
+    ensures { IsTrue result → IsLightBefore bars.now.values.now bars.now.step (both_at bars.now.values.now bars.now.turns.now 0) (at bars.now.ends.now 0)
+        (width_of bars.now.ends.now character.first character.runs) character.halves quiet }
+{
+    let Some(width) = width_of(bars.ends, character.first, character.runs) else {
+        return false;
+    };
+    if bars.ends.len() == 0 {
+        return false;
+    }
+    let Some(both) = both_at(bars.values, bars.turns, 0) else {
+        return false;
+    };
+    let light = Light {
+        step: bars.step,
+        both,
+        width,
+        halves: character.halves,
+        quiet,
+    };
+    has_light_before(bars.values, light, bars.ends[0])
+}
+
+/// Whether there is so much light behind them, by the last character.
+fn has_light_at_right(bars: &Bars, character: Place, quiet: u16) -> bool
+    requires first { character.first < 2 ^ 40 }
+    requires runs { character.runs < 2 ^ 40 }
+    requires few { length bars.now.ends.now < 2 ^ 40 }
+    ensures { IsTrue result → IsLightBehind bars.now.values.now bars.now.step
+        (both_at bars.now.values.now bars.now.turns.now (length bars.now.ends.now - 1)) (at bars.now.ends.now (length bars.now.ends.now - 1))
+        (width_of bars.now.ends.now character.first character.runs) character.halves quiet }
+{
+    let Some(width) = width_of(bars.ends, character.first, character.runs) else {
+        return false;
+    };
+    if bars.ends.len() == 0 {
+        return false;
+    }
+    let last = bars.ends.len() - 1;
+    let Some(both) = both_at(bars.values, bars.turns, last) else {
+        return false;
+    };
+    let light = Light {
+        step: bars.step,
+        both,
+        width,
+        halves: character.halves,
+        quiet,
+    };
+    has_light_behind(bars.values, light, bars.ends[last])
+}
+
+/// Whether there is so much light beside the bars, by characters of so many runs and half modules that begin at these ends.
+pub(crate) fn has_light(
+    bars: &Bars,
+    first: usize,
+    last: usize,
+    runs: usize,
+    halves: u16,
+    quiet: u16,
+) -> bool
+    requires first { first < 2 ^ 40 }
+    requires last { last < 2 ^ 40 }
+    requires runs { runs < 2 ^ 40 }
+    ensures { IsTrue result → HasLight bars.now.values.now bars.now.step bars.now.turns.now bars.now.ends.now first last runs halves quiet }
+{
+    if bars.ends.len() >= 1_048_576 {
+        return false;
+    }
+    let left = Place {
+        first,
+        runs,
+        halves,
+    };
+    let right = Place {
+        first: last,
+        runs,
+        halves,
+    };
+    has_light_at_left(bars, left, quiet) && has_light_at_right(bars, right, quiet)
+}

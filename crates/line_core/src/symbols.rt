@@ -1,0 +1,103 @@
+//! Whether a line shows a symbol.
+ghost use Rattle.std.specs.Prelude.{◌≡◌, ◌+◌, ◌-◌, ◌*◌, ◌<◌, ◌≤◌, ◌^◌, ℕ, IsTrue, length};
+ghost use Rattle.line_core.specs.Symbols.{ShowsBars, ShowsCode, ShowsEan, ShowsItf, ShowsSymbol, ShowsUpce};
+
+use crate::codes::show_codes;
+use crate::digits::show_digits;
+use crate::ends::show_ends;
+use crate::lights::has_light;
+use crate::pairs::show_fives;
+
+/// The samples of a line, how far they are apart in 1/256 dot, the samples at which they turn, the ends between these in 1/256 dot from the first
+/// sample, and the widths in 1/48 module of the runs between the ends, light first and last.
+#[derive(Clone, Copy)]
+pub struct Bars<'a> {
+    pub values: &'a [u32],
+    pub step: u16,
+    pub turns: &'a [u32],
+    pub ends: &'a [u32],
+    pub widths: &'a [u16],
+}
+
+/// Whether bars show EAN of two halves of so many digits, with so many half modules of light.
+fn shows_ean(bars: &Bars, digits: usize, quiet: u16) -> bool
+    requires { digits ≤ 6 }
+    ensures { IsTrue result → ShowsEan bars.now.values.now bars.now.step bars.now.turns.now bars.now.ends.now bars.now.widths.now digits quiet }
+{
+    bars.widths.len() == 8 * digits + 13
+        && show_digits(bars.ends, bars.widths, 3, digits)
+        && show_digits(bars.ends, bars.widths, 8 + 4 * digits, digits)
+        && has_light(bars, 3, 4 + 8 * digits, 4, 14, quiet)
+}
+
+/// Whether they show UPC-E.
+fn shows_upce(bars: &Bars) -> bool
+    ensures { IsTrue result → ShowsUpce bars.now.values.now bars.now.step bars.now.turns.now bars.now.ends.now bars.now.widths.now }
+{
+    bars.widths.len() == 35
+        && show_digits(bars.ends, bars.widths, 3, 6)
+        && has_light(bars, 3, 23, 4, 14, 5)
+}
+
+/// Whether they show Code 128 of so many characters, the last of which is the stop character.
+fn shows_code(bars: &Bars, characters: usize) -> bool
+    requires { characters ≤ 100 }
+    ensures { IsTrue result → ShowsCode bars.now.values.now bars.now.step bars.now.turns.now bars.now.ends.now bars.now.widths.now characters }
+{
+    0 < characters
+        && bars.widths.len() == 6 * characters + 3
+        && show_codes(bars.ends, bars.widths, characters)
+        && has_light(bars, 0, 6 * (characters - 1), 6, 22, 5)
+}
+
+/// Whether they show Code 128 of as many characters as the widths have room for.
+fn shows_any_code(bars: &Bars) -> bool
+    ensures { IsTrue result → (characters : ℕ)
+        × ShowsCode bars.now.values.now bars.now.step bars.now.turns.now bars.now.ends.now bars.now.widths.now characters }
+{
+    let characters = (bars.widths.len() / 6).min(100);
+    shows_code(bars, characters)
+}
+
+/// Whether they show ITF-14.
+fn shows_itf(bars: &Bars) -> bool
+    ensures { IsTrue result → ShowsItf bars.now.values.now bars.now.step bars.now.turns.now bars.now.ends.now bars.now.widths.now }
+{
+    bars.widths.len() == 79
+        && show_fives(bars.ends, bars.widths, 0)
+        && show_fives(bars.ends, bars.widths, 1)
+        && has_light(bars, 4, 64, 10, 34, 5)
+}
+
+/// Whether each character that the widths say is nearer to its pattern than every other of its alphabet, and beside the bars is light.
+fn shows_symbol(bars: &Bars) -> bool
+    ensures { IsTrue result → ShowsSymbol bars.now.values.now bars.now.step bars.now.turns.now bars.now.ends.now bars.now.widths.now }
+{
+    if shows_ean(bars, 6, 5) {
+        return true;
+    }
+    if shows_ean(bars, 4, 9) {
+        return true;
+    }
+    if shows_upce(bars) {
+        return true;
+    }
+    if shows_any_code(bars) {
+        return true;
+    }
+    shows_itf(bars)
+}
+
+/// Whether samples show the bars of the symbol with these widths: each end is between a dark and a light extreme that are next to each other.
+pub fn shows_bars(bars: &Bars) -> bool
+    ensures { IsTrue result → ShowsBars bars.now.values.now bars.now.step bars.now.turns.now bars.now.ends.now bars.now.widths.now }
+{
+    let count = bars.ends.len();
+    if count >= 1_048_576 || count + 1 != bars.widths.len() {
+        return false;
+    }
+    if !show_ends(bars.values, bars.step, bars.turns, bars.ends) {
+        return false;
+    }
+    shows_symbol(bars)
+}
