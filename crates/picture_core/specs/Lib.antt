@@ -1,3 +1,5 @@
+pub use Rattle.line_core.specs.Symbols
+pub mod Bars
 pub mod Lines
 pub mod Order
 pub mod Pictures
@@ -5,5 +7,6 @@ pub mod Places
 pub mod Profiles
 pub mod Rows
 pub mod Saids
+pub mod Samples
 pub mod Told
 pub mod inner

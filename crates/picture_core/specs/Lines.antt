@@ -93,6 +93,7 @@ second_of lines = record {
   down = lines.first.down;
   dots = lines.dots;
   lines = lines.first.lines;
+  sampling = lines.first.sampling;
   cleared = lines.first.cleared;
   is_inverted = lines.first.is_inverted;
 }

@@ -11,47 +11,102 @@ use crate::patch::{across, along, grid_over};
 use crate::reader::Reader;
 use crate::room::RowRoom;
 use crate::said::Furthest;
-use crate::seen_line::{Cleared, SeenLine, SeenLines};
+use crate::seen_line::{Cleared, Sampling, SeenLine, SeenLines};
 use crate::sharp::{Blur, sharpen};
 use crate::shown::Shown;
 use crate::stripes::Blocks;
 use crate::symbol::SeenSymbol;
 use crate::tally::{Seen, Tally};
+use crate::turning::{Sighted, read_bars};
 use crate::windows::{Row, read_windows};
+use line_reader::Turn;
 
 /// How a patch is looked at: how many lines a dot apart are taken in the mean, how many such rows at most, whether they go along the
-/// middles of the stripes, which blur is taken out, how far around the darkest and the lightest is looked for, whether on each side by
-/// itself, and whether the bars are light and what is between them dark.
+/// middles of the stripes, how the mean is looked at, and whether the bars are light and what is between them dark. If ends are looked for
+/// between turns: by how much values come back where they turn, and whether an end is where the way is steepest. If they are looked for by
+/// levels: which blur is taken out, how far around the darkest and the lightest is looked for, and whether on each side by itself.
 #[derive(Clone, Copy)]
 pub(crate) struct Look {
     pub(crate) lines: u32,
     pub(crate) rows: u32,
     pub(crate) is_aslant: bool,
+    pub(crate) sampling: Sampling,
+    pub(crate) is_inverted: bool,
+    pub(crate) turn: Turn,
+    pub(crate) by_slope: bool,
     pub(crate) cleared: Cleared,
     pub(crate) around: usize,
     pub(crate) is_by_sides: bool,
-    pub(crate) is_inverted: bool,
 }
 
+/// A look between turns, and one by levels.
+const BETWEEN_TURNS: Look = Look {
+    lines: 2,
+    rows: 100,
+    is_aslant: false,
+    sampling: Sampling::Halves,
+    is_inverted: false,
+    turn: Turn {
+        part: 164,
+        least: 1536,
+    },
+    by_slope: false,
+    cleared: Cleared::Nothing,
+    around: 0,
+    is_by_sides: false,
+};
+
+const BY_LEVELS: Look = Look {
+    lines: 1,
+    rows: 120,
+    sampling: Sampling::Levels,
+    around: 4,
+    ..BETWEEN_TURNS
+};
+
 /// The looks, each if those before found nothing.
-pub(crate) const LOOKS: [Look; 5] = [
+pub(crate) const LOOKS: [Look; 10] = [
+    Look {
+        rows: 24,
+        sampling: Sampling::Dots,
+        ..BETWEEN_TURNS
+    },
+    BETWEEN_TURNS,
+    Look {
+        lines: 3,
+        rows: 70,
+        is_aslant: true,
+        turn: Turn {
+            part: 131,
+            least: 1229,
+        },
+        ..BETWEEN_TURNS
+    },
+    Look {
+        lines: 3,
+        rows: 80,
+        turn: Turn {
+            part: 115,
+            least: 1075,
+        },
+        by_slope: true,
+        ..BETWEEN_TURNS
+    },
     Look {
         lines: 1,
-        rows: 120,
-        is_aslant: false,
-        cleared: Cleared::Nothing,
-        around: 4,
-        is_by_sides: false,
-        is_inverted: false,
+        turn: Turn {
+            part: 98,
+            least: 922,
+        },
+        ..BETWEEN_TURNS
     },
+    BY_LEVELS,
     Look {
         lines: 3,
         rows: 60,
         is_aslant: true,
-        cleared: Cleared::Nothing,
-        around: 4,
         is_by_sides: true,
-        is_inverted: false,
+        ..BY_LEVELS
     },
     Look {
         lines: 9,
@@ -59,17 +114,14 @@ pub(crate) const LOOKS: [Look; 5] = [
         is_aslant: true,
         cleared: Cleared::Small,
         around: 12,
-        is_by_sides: false,
-        is_inverted: false,
+        ..BY_LEVELS
     },
     Look {
         lines: 3,
         rows: 40,
         is_aslant: true,
-        cleared: Cleared::Nothing,
-        around: 4,
-        is_by_sides: false,
         is_inverted: true,
+        ..BY_LEVELS
     },
     Look {
         lines: 9,
@@ -77,18 +129,24 @@ pub(crate) const LOOKS: [Look; 5] = [
         is_aslant: true,
         cleared: Cleared::Large,
         around: 12,
-        is_by_sides: false,
-        is_inverted: false,
+        ..BY_LEVELS
     },
 ];
+
+impl Look {
+    /// Whether it may have taken these lines.
+    pub(crate) fn may_take(&self, line: &SeenLine) -> bool {
+        self.lines == u32::from(line.lines)
+            && self.sampling == line.sampling
+            && self.cleared == line.cleared
+            && self.is_inverted == line.is_inverted
+    }
+}
 
 /// The look that took these lines.
 pub(crate) fn look_of(line: &SeenLine) -> Option<Look> {
     for look in &LOOKS {
-        if look.lines == u32::from(line.lines)
-            && look.cleared == line.cleared
-            && look.is_inverted == line.is_inverted
-        {
+        if look.may_take(line) {
             return Some(*look);
         }
     }
@@ -138,21 +196,22 @@ pub(crate) fn put_ends(
     made.count()
 }
 
-/// Notes what a row of a grid says; how many dots it took.
-fn read_row(
+/// Notes what a row says by levels; how many dots it took.
+fn read_levels(
     reader: &Reader,
     grid: &Grid,
-    row: u32,
+    v: i64,
     look: &Look,
     room: &mut RowRoom,
     tally: &mut Tally,
     furthest: &mut Furthest,
 ) -> usize {
-    let v = grid.v_of(row);
-    let (from, dots) = grid.add_lines(reader.picture, v, look.lines, room.sums);
+    let half = room.samples.len() / 2;
+    let (sums, clear) = room.samples.split_at_mut(half);
+    let (from, dots) = grid.add_lines(reader.picture, v, look.lines, sums);
     if dots == 0
-        || dots > room.sums.len()
-        || dots > room.clear.len()
+        || dots > sums.len()
+        || dots > clear.len()
         || dots > room.blurred.len()
         || dots > room.low.len()
         || dots > room.high.len()
@@ -160,9 +219,9 @@ fn read_row(
         return 0;
     }
     let count = put_ends(
-        &mut room.sums[..dots],
+        &mut sums[..dots],
         look,
-        &mut room.clear[..dots],
+        &mut clear[..dots],
         &mut room.blurred[..dots],
         &mut room.low[..dots],
         &mut room.high[..dots],
@@ -180,6 +239,29 @@ fn read_row(
     dots.saturating_mul(look.lines as usize)
 }
 
+/// Notes what a row of a grid says; how many dots it took.
+fn read_row(
+    reader: &Reader,
+    grid: &Grid,
+    row: u32,
+    look: &Look,
+    room: &mut RowRoom,
+    tally: &mut Tally,
+    furthest: &mut Furthest,
+) -> usize {
+    let v = grid.v_of(row);
+    if look.sampling == Sampling::Levels {
+        return read_levels(reader, grid, v, look, room, tally, furthest);
+    }
+    let (from, line) = grid.lines_of(reader.picture, v, look);
+    let sighted = Sighted {
+        u: from >> 8,
+        v,
+        step: grid.step,
+    };
+    read_bars(reader, &line, look, sighted, room, tally, furthest)
+}
+
 /// The corners of what rows show, from the first of them to the last.
 fn spots_of(seen: &Seen, grid: &Grid) -> [Spot; 4] {
     let top = seen.first.v.saturating_sub(grid.step / 2) >> 8;
@@ -195,13 +277,14 @@ fn spots_of(seen: &Seen, grid: &Grid) -> [Spot; 4] {
 /// How many steps are made through the rows of what was seen, which are asked whether their lines show it.
 const STEPS: u8 = 31;
 
-/// The lines of two rows that show what was seen: of some rows the first such and the next one.
-fn lines_of(
+/// The lines of two rows that show what was seen, from one of their ends: of some rows the first such and the next one.
+fn lines_from(
     reader: &Reader,
     grid: &Grid,
     seen: &Seen,
     look: &Look,
     room: &mut RowRoom,
+    is_turned: bool,
 ) -> Option<SeenLines> {
     let said = seen.said.as_ref()?;
     let rows = over(seen.last.v.saturating_sub(seen.first.v), grid.step.max(1));
@@ -213,8 +296,7 @@ fn lines_of(
             continue;
         }
         asked = row;
-        let v = seen.first.v.saturating_add(row.saturating_mul(grid.step));
-        let line = grid.lines_of(reader.picture, v, look);
+        let line = line_in(reader, grid, seen, look, row, rows, is_turned);
         if line_shows(reader.picture, reader.year, said, &line, room).is_none() {
             continue;
         }
@@ -234,6 +316,41 @@ fn lines_of(
         }
     }
     None
+}
+
+/// The lines of a row of what was seen, from the first one on, or if they are turned round from the last one back.
+fn line_in(
+    reader: &Reader,
+    grid: &Grid,
+    seen: &Seen,
+    look: &Look,
+    row: i64,
+    rows: i64,
+    is_turned: bool,
+) -> SeenLine {
+    let row = if is_turned {
+        rows.saturating_sub(row)
+    } else {
+        row
+    };
+    let v = seen.first.v.saturating_add(row.saturating_mul(grid.step));
+    let (_, line) = grid.lines_of(reader.picture, v, look);
+    if is_turned { line.turned_round() } else { line }
+}
+
+/// The lines of two rows that show what was seen. Ends between turns show it from one side.
+fn lines_of(
+    reader: &Reader,
+    grid: &Grid,
+    seen: &Seen,
+    look: &Look,
+    room: &mut RowRoom,
+) -> Option<SeenLines> {
+    let lines = lines_from(reader, grid, seen, look, room, false);
+    if lines.is_some() || look.sampling == Sampling::Levels {
+        return lines;
+    }
+    lines_from(reader, grid, seen, look, room, true)
 }
 
 /// The symbol that was seen on these lines, in a box along its bars: as the rows show these, or else as the stripes go.

@@ -1,7 +1,6 @@
 //! Looks a symbol of a look up on its line once more.
 ghost use Rattle.std.specs.Prelude.{◌≡◌, ◌+◌, ◌<◌, ◌≤◌, ℕ, IfSome, IsTrue, length};
-ghost use Rattle.scan_core.specs.Answers.{IsAnswer};
-ghost use Rattle.scan_core.specs.declared.answer.Answer.TheVariants.{Read};
+ghost use Rattle.picture_core.specs.Bars.{Shows};
 ghost use Rattle.picture_core.specs.Profiles.{IsPlainAbout, IsQuietZone, IsRunOfLine, IsShownBy, IsTurn, LineShows};
 
 use crate::edges::level_in;
@@ -12,10 +11,11 @@ use crate::picture::Picture;
 use crate::place::half_way;
 use crate::profile::{Profile, is_plain_about, is_quiet_zone, is_run, is_turn};
 use crate::room::RowRoom;
-use crate::said::{Furthest, Said};
+use crate::said::Said;
 use crate::scaled::{are_widths, clip_quiet};
-use crate::seen_line::{Cleared, SeenLine};
+use crate::seen_line::{Cleared, Sampling, SeenLine};
 use crate::shape::Shape;
+use crate::turning::bars_show;
 use crate::windows::{Row, widths_of, window_of};
 use element_core::Year;
 
@@ -177,17 +177,6 @@ fn is_shown_by(
     are_widths(ends, widths, shape)
 }
 
-/// Whether widths say what a symbol says.
-fn say(widths: &[u16], year: Year, said: &Said) -> bool
-    ensures { IsTrue result → IsAnswer widths.now year (Read said.now.carrier said.now.elements) }
-{
-    let mut furthest = Furthest::none();
-    match Said::of_widths(widths, year, &mut furthest) {
-        Some(again) => again.says_as(said),
-        None => false,
-    }
-}
-
 /// The dot in the middle of the bars of a symbol that the values of a line show between some of these ends.
 fn window_shows(
     picture: &Picture,
@@ -220,7 +209,7 @@ fn window_shows(
         return None;
     };
     clip_quiet(window, widths.as_mut_slice(), &shape);
-    if !say(widths.as_slice(), year, said) {
+    if !said.is_said_by(widths.as_slice(), year) {
         return None;
     }
     if !line.is_laid() {
@@ -293,6 +282,32 @@ fn laid_lines_show(
     )
 }
 
+/// The dot in the middle of the bars of a symbol, if its lines show it by levels.
+fn levels_show(
+    picture: &Picture,
+    year: Year,
+    said: &Said,
+    line: &SeenLine,
+    room: &mut RowRoom,
+) -> Option<u32>
+    ensures { IfSome result (λ dot. LineShows picture.now year said.now.carrier said.now.elements line.now dot) }
+{
+    let half = room.samples.len() / 2;
+    let (sums, clear) = room.samples.split_at_mut(half);
+    laid_lines_show(
+        picture,
+        year,
+        said,
+        line,
+        sums,
+        clear,
+        room.blurred,
+        room.low,
+        room.high,
+        room.ends,
+    )
+}
+
 /// The dot in the middle of the bars of a symbol, if its lines show it. What is on the stack here is not so while stripes are read.
 #[inline(never)]
 pub(crate) fn line_shows(
@@ -302,18 +317,11 @@ pub(crate) fn line_shows(
     line: &SeenLine,
     room: &mut RowRoom,
 ) -> Option<u32>
-    ensures { IfSome result (λ dot. LineShows picture.now year said.now.carrier said.now.elements line.now dot) }
+    ensures { IfSome result (λ dot. Shows line.now.sampling picture.now year said.now.carrier said.now.elements line.now dot) }
 {
-    laid_lines_show(
-        picture,
-        year,
-        said,
-        line,
-        room.sums,
-        room.clear,
-        room.blurred,
-        room.low,
-        room.high,
-        room.ends,
-    )
+    match line.sampling {
+        Sampling::Levels => levels_show(picture, year, said, line, room),
+        Sampling::Dots => bars_show(picture, year, said, line, room),
+        Sampling::Halves => bars_show(picture, year, said, line, room),
+    }
 }

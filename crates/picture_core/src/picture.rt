@@ -3,6 +3,7 @@ ghost use Rattle.std.specs.Prelude.{true, false, IfNone, OnSome, ◌≡◌, ◌+
 ghost use Rattle.picture_core.specs.Pictures.{IsPicture};
 ghost use Rattle.picture_core.specs.Lines.{IsAmidDots, mix, value_at};
 ghost use Rattle.picture_core.specs.Rows.{greys_of_row};
+ghost use Rattle.picture_core.specs.Samples.{IsAmidFour, cubic_at, less_by, weight_before, weight_behind};
 
 use std::marker::Model;
 
@@ -118,6 +119,79 @@ impl<'a> Picture<'a> {
         );
         Some(mixed(upper, lower, y / 256 % 256) / 256)
     }
+
+    /// The value at a place, in 1/65536 dot from the middle of the first one, in 1/256 grey value and 64 grey values more: linear across
+    /// rows, cubic along them; none if the eight dots about it are not all in the picture.
+    #[tactic(auto, unfolding(crate::specs::Samples::cubic_at))]
+    pub(crate) fn cubic_at(&self, x: u32, y: u32) -> Option<u32>
+        ensures value { IfSome result (λ value. value ≡ cubic_at self.now x y) }
+        ensures some { OnSome result (IsAmidFour self.now x y) }
+        ensures few { IfSome result (λ value. value ≤ 524288) }
+    {
+        let column = (x >> 16) as usize;
+        let row = (y >> 16) as usize;
+        if column == 0 || column + 2 >= self.width() || row + 1 >= self.height() {
+            return None;
+        }
+        let right = x / 256 % 256;
+        let down = y / 256 % 256;
+        let above = self.row(row);
+        let below = self.row(row + 1);
+        let one = mixed(
+            u32::from(above[column - 1]),
+            u32::from(below[column - 1]),
+            down,
+        );
+        let two = mixed(u32::from(above[column]), u32::from(below[column]), down);
+        let three = mixed(
+            u32::from(above[column + 1]),
+            u32::from(below[column + 1]),
+            down,
+        );
+        let four = mixed(
+            u32::from(above[column + 2]),
+            u32::from(below[column + 2]),
+            down,
+        );
+        let more = weight_before(right) * u64::from(two)
+            + weight_behind(right) * u64::from(three)
+            + 549_755_813_888;
+        Some((more.saturating_sub(less_by(one, four, right)) / 33_554_432) as u32)
+    }
+}
+
+/// How much the dot before a place counts, of 2^25, if it is this many 256ths of the way to the next.
+fn weight_before(part: u32) -> u64
+    requires { part < 256 }
+    ensures value { result ≡ weight_before part }
+    ensures few { result ≤ 83298557 }
+{
+    let part = u64::from(part);
+    let square = part * part;
+    (33_554_432 + 3 * (square * part)).saturating_sub(1280 * square)
+}
+
+/// How much the one behind it counts.
+fn weight_behind(part: u32) -> u64
+    requires { part < 256 }
+    ensures value { result ≡ weight_behind part }
+    ensures few { result ≤ 83297280 }
+{
+    let part = u64::from(part);
+    let square = part * part;
+    (65_536 * part + 1024 * square).saturating_sub(3 * (square * part))
+}
+
+/// By how much the two beside them make it less.
+fn less_by(one: u32, four: u32, part: u32) -> u64
+    requires part { part < 256 }
+    requires one { one ≤ 65280 }
+    requires four { four ≤ 65280 }
+    ensures { result ≡ less_by one four part }
+{
+    let part = u64::from(part);
+    let rest = 256 - part;
+    part * rest * (rest * u64::from(one) + part * u64::from(four))
 }
 
 /// 256 times the value that is this many 256ths of the way from one to another.

@@ -7,8 +7,8 @@ use crate::layout::Layout;
 /// Room for a row that is laid through a picture.
 #[derive(Drop)]
 pub(crate) struct RowRoom<'a> {
-    pub(crate) sums: &'a mut [u32],
-    pub(crate) clear: &'a mut [u32],
+    /// Two words for each dot.
+    pub(crate) samples: &'a mut [u32],
     pub(crate) blurred: &'a mut [u32],
     pub(crate) low: &'a mut [u32],
     pub(crate) high: &'a mut [u32],
@@ -55,8 +55,7 @@ impl<'a> Room<'a> {
         }
         let dots = usize::from(width) + usize::from(height);
         let blocks = Layout::of(usize::from(width), usize::from(height)).blocks();
-        let (sums, words) = words.split_at_mut(dots);
-        let (clear, words) = words.split_at_mut(dots);
+        let (samples, words) = words.split_at_mut(2 * dots);
         let (blurred, words) = words.split_at_mut(dots);
         let (low, words) = words.split_at_mut(dots);
         let (high, words) = words.split_at_mut(dots);
@@ -68,8 +67,7 @@ impl<'a> Room<'a> {
             width: usize::from(width),
             widths,
             row: RowRoom {
-                sums,
-                clear,
+                samples,
                 blurred,
                 low,
                 high,

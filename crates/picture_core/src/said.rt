@@ -107,6 +107,17 @@ impl Said {
     {
         self.carrier == other.carrier && are_same(&self.elements, &other.elements)
     }
+
+    /// Whether widths say this.
+    pub(crate) fn is_said_by(&self, widths: &[u16], year: Year) -> bool
+        ensures { IsTrue result → IsAnswer widths.now year (Read self.now.carrier self.now.elements) }
+    {
+        let mut furthest = Furthest::none();
+        match Said::of_widths(widths, year, &mut furthest) {
+            Some(again) => again.says_as(self),
+            None => false,
+        }
+    }
 }
 
 /// Notes why a whole row is refused, if it has as many runs as a symbol.

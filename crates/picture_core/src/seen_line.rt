@@ -1,8 +1,9 @@
 //! The lines of a picture along which a look saw a symbol.
 ghost use Rattle.picture_core.specs.Lines.{IsBefore, IsLaid, second_of, down_at, length_of, part_of, part_start, place_at, reach_of, right_at, square_of};
+ghost use Rattle.picture_core.specs.Samples.{sample_down, sample_right, samples_in, step_of};
 ghost use Rattle.std.specs.Prelude.{◌≡◌, ◌<◌, ◌≤◌, ◌^◌, IsTrue};
 
-use crate::place::Point;
+use crate::place::{Point, half_way};
 
 /// What was taken out of the mean of lines before its bars were looked for: no blur, one of 2.4 dots, or one of 3.
 #[derive(Clone, Copy, PartialEq, Eq)]
@@ -10,6 +11,39 @@ pub enum Cleared {
     Nothing,
     Small,
     Large,
+}
+
+/// How the mean of lines was looked at: dot by dot, its ends where it passes a level; or its ends between the places where it turns, with a sample at each dot,
+/// or also half way to the next one.
+#[derive(Clone, Copy, PartialEq, Eq)]
+pub enum Sampling {
+    Levels,
+    Dots,
+    Halves,
+}
+
+impl Sampling {
+    /// How many samples so many dots have.
+    pub(crate) fn samples_in(self, dots: u32) -> usize
+        requires { 0 < dots }
+        ensures { result ≡ samples_in self dots }
+    {
+        let dots = dots as usize;
+        match self {
+            Sampling::Levels | Sampling::Dots => dots,
+            Sampling::Halves => 2 * dots - 1,
+        }
+    }
+
+    /// How far samples are apart, in 1/256 dot.
+    pub(crate) fn step(self) -> u16
+        ensures { result ≡ step_of self }
+    {
+        match self {
+            Sampling::Levels | Sampling::Dots => 256,
+            Sampling::Halves => 128,
+        }
+    }
 }
 
 /// Lines of a picture, a dot apart, whose mean shows a symbol. A place that is left of the picture or above it counts as far outside:
@@ -26,7 +60,9 @@ pub struct SeenLine {
     pub dots: u32,
     /// How many lines there are.
     pub lines: u8,
-    /// What was taken out of their mean.
+    /// How their mean was looked at.
+    pub sampling: Sampling,
+    /// What was taken out of it.
     pub cleared: Cleared,
     /// Whether the bars are light and what is between them dark.
     pub is_inverted: bool,
@@ -98,6 +134,19 @@ impl SeenLine {
         )
     }
 
+    /// The same lines from their other ends.
+    pub(crate) fn turned_round(&self) -> SeenLine {
+        let last = self.dots.saturating_sub(1);
+        let lowest = u32::from(self.lines).saturating_sub(1);
+        SeenLine {
+            x: self.right_at(last, lowest),
+            y: self.down_at(last, lowest),
+            across: self.across.wrapping_neg(),
+            down: self.down.wrapping_neg(),
+            ..*self
+        }
+    }
+
     /// Whether there are at most nine lines, and the step from dot to dot is a dot long.
     pub(crate) fn is_laid(&self) -> bool
         ensures { IsTrue result → IsLaid self.now }
@@ -122,6 +171,32 @@ impl SeenLine {
         self.y
             .wrapping_add(dot.wrapping_mul(self.down))
             .wrapping_add(line.wrapping_mul(self.across))
+    }
+
+    /// How far right a sample of one of the lines stands.
+    pub(crate) fn sample_right(&self, sample: u32, line: u32) -> u32
+        ensures { result ≡ sample_right self.now sample line }
+    {
+        match self.sampling {
+            Sampling::Levels | Sampling::Dots => self.right_at(sample, line),
+            Sampling::Halves => half_way(
+                self.right_at(sample / 2, line),
+                self.right_at(sample / 2 + sample % 2, line),
+            ),
+        }
+    }
+
+    /// How far down it stands.
+    pub(crate) fn sample_down(&self, sample: u32, line: u32) -> u32
+        ensures { result ≡ sample_down self.now sample line }
+    {
+        match self.sampling {
+            Sampling::Levels | Sampling::Dots => self.down_at(sample, line),
+            Sampling::Halves => half_way(
+                self.down_at(sample / 2, line),
+                self.down_at(sample / 2 + sample % 2, line),
+            ),
+        }
     }
 
     /// How many dots a part of a line has, in which all have one dark and one light value around them.

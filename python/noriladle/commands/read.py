@@ -32,6 +32,16 @@ DPI = 300
 _PATIENCE = 60
 """How many seconds pdftoppm may take for a page."""
 _MOST_PAGES, _MOST_BYTES = 10_000, 1_000_000_000
+_KINDS = "EAN, UPC, ITF-14 and GS1-128 are read, QR Codes and DataMatrix are not"
+_NEARER = "come nearer, until a narrow bar has 1.5 pixels or more, and hold still"
+_ADVICE = {
+    21: "leave light at both ends of the bars, five times as wide as a narrow bar",
+    22: f"bars are seen, but not clearly: {_NEARER}",
+    23: f"bars are seen, but not clearly: {_NEARER}",
+    24: f"a digit is not clear, or a wrong number was printed: {_NEARER}",
+    13: f"a character is not clear, or damaged: {_NEARER}",
+}
+"""What to do about a picture whose furthest row has this error: blur and small bars look like damage in a row."""
 _DAMAGES = (OSError, ValueError, SyntaxError, EOFError, IndexError, KeyError, TypeError, struct.error, zlib.error)
 """What Pillow raises for damaged files."""
 _PHOTOS_OF_TELEPHONES = (b"ftypheic", b"ftypheix", b"ftyphevc", b"ftypmif1", b"ftypmsf1", b"ftypavif")
@@ -81,7 +91,7 @@ def run(words: argparse.Namespace) -> int:
                     tell(f"{page}: it shows {shown.dropped} barcodes more, at least: cut the picture")
                     status = max(status, REFUSED)
                 if not shown.symbols:
-                    tell(f"{page}: no barcode was read{_why(shown.reason)}; docs/PICTURES.md says what a picture needs")
+                    tell(f"{page}: {_why(shown.reason)}; docs/PICTURES.md says what a picture needs")
                     status = max(status, REFUSED)
         except Refusal as refusal:
             tell(f"{name}: {refusal}: a picture of more than {picture.MOST_PIXELS:,} pixels is not read: make it smaller")
@@ -94,8 +104,11 @@ def run(words: argparse.Namespace) -> int:
 
 
 def _why(reason: Optional[Refusal]) -> str:
-    """Why the row that came furthest was not read."""
-    return f": {reason}: {reason.cause}" if reason else ""
+    """Why a picture shows no barcode that is read, by the row that came furthest, and what to do."""
+    if reason is None:
+        return f"no barcode was found: {_KINDS}"
+    advice = _ADVICE.get(reason.number)
+    return f"no barcode was read: {reason}: {advice or reason.cause}"
 
 
 def _told(page: Page, symbol: Symbol, as_json: bool) -> str:

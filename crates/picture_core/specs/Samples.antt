@@ -1,0 +1,87 @@
+-- Samples of lines that are laid through a picture: linear across the picture's rows, cubic along them (Keys).
+use Rattle.std.specs.Prelude.{◌≡◌, ℕ, zero, suc, ◌+◌, ◌-◌, ◌*◌, ◌/◌, ◌%◌, ◌<◌, ◌≤◌, Bool, true, false, List, length, slice_index_or}
+use Rattle.picture_core.specs.Lines.{down_at, grey_at, mix, right_at}
+use Rattle.picture_core.specs.Pictures.{Greys}
+use Rattle.picture_core.specs.declared.seen_line.Sampling.{Sampling}
+use Rattle.picture_core.specs.declared.seen_line.Sampling.TheVariants.{Levels, Dots, Halves}
+use Rattle.picture_core.specs.declared.seen_line.SeenLine.{SeenLine}
+
+-- ---- the value at a place
+
+-- how much the dot before a place and the one behind it count, of 2 ^ 25, if it is this many 256ths of the way from one to the other
+abbrev pub weight_before : ℕ → ℕ
+weight_before part = 33554432 + 3 * (part * part * part) - 1280 * (part * part)
+
+abbrev pub weight_behind : ℕ → ℕ
+weight_behind part = 65536 * part + 1024 * (part * part) - 3 * (part * part * part)
+
+-- by how much the two beside them make it less
+abbrev pub less_by : ℕ → ℕ → ℕ → ℕ
+less_by one four part = part * (256 - part) * ((256 - part) * one + part * four)
+
+-- 256 times the value of a column, this many 256ths of the way from a row down to the next
+abbrev pub mixed_at : Greys → ℕ → ℕ → ℕ → ℕ
+mixed_at picture column row down = mix (grey_at picture column row) (grey_at picture column (row + 1)) down
+
+-- the four dots along a row about a place, in 1/65536 dot from the middle of the picture's first one, and those below them are in the picture
+pub record IsAmidFour (picture : Greys) (x y : ℕ) : Type 0 where
+  pub before : 0 < x / 65536
+  pub behind : x / 65536 + 2 < picture.width
+  pub down : y / 65536 + 1 < picture.height
+
+-- the value there, in 1/256 grey value, and 64 grey values more, so that it is never below 0
+unfoldable pub cubic_at : Greys → ℕ → ℕ → ℕ
+cubic_at picture x y =
+    (weight_before (x / 256 % 256) * mixed_at picture (x / 65536) (y / 65536) (y / 256 % 256)
+    + weight_behind (x / 256 % 256) * mixed_at picture (x / 65536 + 1) (y / 65536) (y / 256 % 256)
+    + 549755813888
+    - less_by (mixed_at picture (x / 65536 - 1) (y / 65536) (y / 256 % 256)) (mixed_at picture (x / 65536 + 2) (y / 65536) (y / 256 % 256)) (x / 256 % 256))
+    / 33554432
+
+-- ---- samples of lines
+
+-- how many samples so many dots have, and how far they are apart, in 1/256 dot
+abbrev pub samples_in : Sampling → ℕ → ℕ
+samples_in Levels dots = dots
+samples_in Dots dots = dots
+samples_in Halves dots = 2 * dots - 1
+
+abbrev pub step_of : Sampling → ℕ
+step_of Levels = 256
+step_of Dots = 256
+step_of Halves = 128
+
+-- where a sample stands, by the places of dots: at one, or half way between two
+abbrev pub place_of : Sampling → (ℕ → ℕ) → ℕ → ℕ
+place_of Levels place sample = place sample
+place_of Dots place sample = place sample
+place_of Halves place sample = (place (sample / 2) + place (sample / 2 + sample % 2)) / 2
+
+abbrev pub sample_right : SeenLine → ℕ → ℕ → ℕ
+sample_right line sample lower = place_of line.sampling (λ dot. right_at line dot lower) sample
+
+abbrev pub sample_down : SeenLine → ℕ → ℕ → ℕ
+sample_down line sample lower = place_of line.sampling (λ dot. down_at line dot lower) sample
+
+-- the sum of the values of the first lines at a sample
+abbrev pub samples_sum : Greys → SeenLine → ℕ → ℕ → ℕ
+samples_sum picture line sample zero = 0
+samples_sum picture line sample (suc lower) =
+    samples_sum picture line sample lower + cubic_at picture (sample_right line sample lower) (sample_down line sample lower)
+
+-- dark for light, if the bars are light
+abbrev pub turned : Bool → ℕ → ℕ
+turned true value = 98304 - value
+turned false value = value
+
+-- the value is the mean of the lines at a sample, and all of them are in the picture there
+pub record IsSampleAt (picture : Greys) (line : SeenLine) (sample value : ℕ) : Type 0 where
+  pub some : 0 < line.lines
+  pub amid : (lower : ℕ) → lower < line.lines → IsAmidFour picture (sample_right line sample lower) (sample_down line sample lower)
+  pub mean : value ≡ turned line.is_inverted (samples_sum picture line sample line.lines / line.lines)
+
+-- these are the values of the mean, sample by sample
+pub record AreSamples (picture : Greys) (line : SeenLine) (values : List ℕ) : Type 0 where
+  pub some : 0 < line.dots
+  pub within : length values ≤ samples_in line.sampling line.dots
+  pub each : (sample : ℕ) → sample < length values → IsSampleAt picture line sample (slice_index_or values sample 0)
