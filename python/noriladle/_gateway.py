@@ -2,25 +2,31 @@
 from __future__ import annotations
 
 import asyncio
-import contextlib
 import itertools
 import math
 import re
 import socket
 import time
-from typing import AsyncIterator, Awaitable, Dict, Iterator, List, Optional, Protocol, Set, Tuple, Union
+from typing import AsyncIterator, Awaitable, Dict, List, Optional, Protocol, Set, Tuple, Union
 
 from . import Answer, Refusal
+from ._door import Place, Places
+from ._health import Metrics
+from ._log import Log
 from ._rights import Rights, all_rights, name_of_token, unix_names
 from ._scans import Scans, ScanLane, text_of
-from ._service import Log, Metrics
 from .live import Hub, HubEnded, Lane
 
 CUT = 65_536 + 1
 """How many bytes are kept of a line that has not ended: the hub refuses it as too long anyway."""
 
 _SCAN = re.compile(rb"(\d{1,18})(?:([ \t])(.*))?", re.DOTALL)
+_HTTP = re.compile(rb"[A-Z]+ \S+ HTTP/[0-9.]+\r?")
+OWN, ITS_ANSWER = "]E09501101530003", "]E0 (01)09501101530003"
+"""The text of the gateway's own scan, and the right answer to it."""
 
+SPARE_IDLE = 5.0
+"""How many seconds a connection with a place for scanners alone may say nothing."""
 UNREAD_LINES = 65_536
 """A till that leaves more bytes of lines than this unread is closed."""
 
@@ -32,8 +38,8 @@ class Closed(Exception):
 class Connection:
     """A client: who it is, and since when it has sent or read nothing."""
 
-    def __init__(self, reader: asyncio.StreamReader, writer: asyncio.StreamWriter) -> None:
-        self.reader, self.writer = reader, writer
+    def __init__(self, place: Place, reader: asyncio.StreamReader, writer: asyncio.StreamWriter) -> None:
+        self.place, self.reader, self.writer = place, reader, writer
         self.is_unix = writer.get_extra_info("socket").family == socket.AF_UNIX
         self.peer, self.names = _peer(writer, self.is_unix)
         self.asked = ("", "")
@@ -114,12 +120,12 @@ class Rows:
         answers: List[str] = []
         gateway, connection = self._gateway, self._connection
         connection.since = math.inf
-        gateway.began[self] = time.monotonic()
+        begin = gateway.began[self] = time.monotonic()
         try:
             async for reply in self._lane.read_all(lines):
                 number = "-" if reply.number is None else next(self._numbers)
                 answers.append(f"{number} {text_of(reply.answer, gateway.elements)}\n")
-                gateway.seen(reply.answer)
+                gateway.seen(reply.answer, time.monotonic() - begin)
         finally:
             del gateway.began[self]
             connection.writer.write("".join(answers).encode())
@@ -203,12 +209,12 @@ class Teller:
 
 class Gateway:
     """The connections of one hub. `idle` is how many seconds each may send or read nothing; `kept` is how many lanes TCP
-    connections leave to those of the UNIX socket; `most` is how many connections there may be."""
+    connections leave to those of the UNIX socket."""
 
     def __init__(
-        self, hub: Hub, idle: float, elements: bool, kept: int, most: int, log: Log, metrics: Metrics, rights: Rights = all_rights(),
+        self, hub: Hub, idle: float, elements: bool, kept: int, places: Places, log: Log, metrics: Metrics, rights: Rights = all_rights(),
     ) -> None:
-        self.hub, self.idle, self.elements, self.kept, self.most = hub, idle, elements, kept, most
+        self.hub, self.idle, self.elements, self.kept, self.places = hub, idle, elements, kept, places
         self.log, self.metrics, self.rights = log, metrics, rights
         self.free = [hub.lane(number) for number in range(hub.lanes)]
         self.scans = Scans(hub, elements)
@@ -223,34 +229,45 @@ class Gateway:
 
     def _name_metrics(self) -> None:
         of = self.metrics
-        of.counter("noriladle_answers_total", "Rows and texts that were answered, refusals among them.")
-        of.counter("noriladle_refusals_total", "Rows and texts that were refused, by the number of the refusal.")
-        of.counter("noriladle_unread_total", "Scans without an answer in their time.")
-        of.counter("noriladle_closed_total", "Connections that the gateway closed.")
-        of.gauge("noriladle_connections", "Connections.", lambda: len(self._connections))
+        self._answers = of.counter("noriladle_answers_total", "Rows and texts that were answered, refusals among them.")
+        self._refusals = of.counter("noriladle_refusals_total", "Rows and texts that were refused, by the number of the refusal.", "number")
+        self._unread = of.counter("noriladle_unread_total", "Scans without an answer in their time.")
+        self._took = of.histogram("noriladle_answer_seconds", "How long the hub took for an answer.")
+        self._closed = of.counter("noriladle_closed_total", "Connections that the gateway closed.")
+        of.gauge("noriladle_connections", "Connections.", lambda: self.places.taken)
         of.gauge("noriladle_lanes_free", "Lanes that no connection has.", lambda: len(self.free))
-        of.gauge("noriladle_scanners", "Scanners.", lambda: sum(bool(it.scanner) for it in self.scans.lanes.values()))
+        of.gauge("noriladle_scanner_connected", "1 if the lane has a scanner, else 0.",
+                 lambda: {it.name: bool(it.scanner) for it in self.scans.lanes.values()}, "lane")
         of.gauge("noriladle_tills", "Tills.", lambda: sum(len(it.watchers) for it in self.scans.lanes.values()))
-        of.gauge("noriladle_under_way", "Scans, and turns of rows, without an answer yet.", lambda: len(list(self._since())))
-        of.gauge("noriladle_oldest_seconds", "How long the oldest of these has waited.", self._oldest)
+        of.gauge("noriladle_unanswered", "Scans without an answer yet; of the lane - turns of rows.",
+                 lambda: {name: len(since) for name, since in self._since().items()}, "lane")
+        of.gauge("noriladle_oldest_seconds", "How long the oldest of these has waited; 0 if there is none.", self._oldest, "lane")
 
-    def _since(self) -> Iterator[float]:
-        yield from self.began.values()
-        for lane in self.scans.lanes.values():
-            yield from lane.under_way
+    def _since(self) -> Dict[str, List[float]]:
+        """When the gateway got what has no answer yet, by lane."""
+        return {"-": list(self.began.values()), **{it.name: it.under_way for it in self.scans.lanes.values()}}
 
-    def _oldest(self) -> float:
+    def _oldest(self) -> Dict[str, float]:
         now = time.monotonic()
-        return now - min(self._since(), default=now)
+        return {name: now - min(since, default=now) for name, since in self._since().items()}
 
-    def seen(self, answer: Union[Answer, Refusal, None]) -> None:
-        """Counts an answer."""
+    def seen(self, answer: Union[Answer, Refusal, None], seconds: float) -> None:
+        """Counts an answer, and how long it took; None is a scan without one."""
         if answer is None:
-            self.metrics.add("noriladle_unread_total")
+            self._unread.add()
             return
-        self.metrics.add("noriladle_answers_total")
+        self._answers.add()
+        self._took.see(seconds)
         if isinstance(answer, Refusal):
-            self.metrics.add("noriladle_refusals_total", f'number="{answer.number}"')
+            self._refusals.add(str(answer.number))
+
+    async def trip(self) -> str:
+        """Has a scan of its own answered by the hub. Returns why it was not, or nothing."""
+        try:
+            answer = str((await self.hub.lane(0).read(OWN)).answer)
+        except HubEnded as fault:
+            return str(fault)
+        return "" if answer == ITS_ANSWER else f"the hub answers {answer} to {OWN}"
 
     def take_lane(self, is_unix: bool) -> Lane:
         """A lane that no other connection has."""
@@ -266,19 +283,16 @@ class Gateway:
         self._by_tcp -= not is_unix
         self.free.append(lane)
 
-    async def connected(self, reader: asyncio.StreamReader, writer: asyncio.StreamWriter) -> None:
+    async def connected(self, place: Place, reader: asyncio.StreamReader, writer: asyncio.StreamWriter) -> None:
         """Serves a connection to its end."""
-        connection = Connection(reader, writer)
+        connection = Connection(place, reader, writer)
         why = ""
+        self._connections.add(connection)
+        self.log.note("connected", peer=connection.peer)
         try:
-            if len(self._connections) >= self.most:
-                why = f"there are {self.most} connections"
-            else:
-                self._connections.add(connection)
-                self.log.note("connected", peer=connection.peer)
-                why = await self._serve(connection)
+            why = await self._serve(connection)
             if why:
-                self.metrics.add("noriladle_closed_total")
+                self._closed.add()
                 writer.write(f"closed: {why}\n".encode())
             writer.close()
             await asyncio.wait_for(writer.wait_closed(), self.idle)
@@ -323,7 +337,11 @@ class Gateway:
 
     def _begin(self, connection: Connection, lines: List[bytes]) -> Tuple[Role, List[bytes]]:
         """What the connection is for, by its first line; and the other lines."""
+        if _HTTP.fullmatch(lines[0]):
+            raise Closed("this port is not for web pages")
         word, _, name = lines[0].rstrip(b"\r").decode("ascii", "replace").partition(" ")
+        if connection.place.only_scanner and word != "scan":
+            raise Closed(connection.place.only_scanner)
         if word not in ("scan", "watch"):
             self.let(connection, "rows")
             return Rows(self, connection), lines
@@ -335,6 +353,7 @@ class Gateway:
         role: Role
         if word == "scan":
             role = Scanner(connection, lane)
+            self.places.settle(connection.place)
         else:
             role = Till(connection, lane)
         connection.is_patient = True
@@ -365,29 +384,19 @@ class Gateway:
         """Closes connections that have sent or read nothing for too long."""
         while True:
             await asyncio.sleep(min(1.0, self.idle / 4))
-            least = time.monotonic() - self.idle
             for connection in list(self._connections):
-                if connection.since < least and not connection.is_patient:
-                    connection.close(f"nothing came or was taken for {self.idle:g} seconds")
+                # A spare place is needed again soon.
+                idle = min(self.idle, SPARE_IDLE) if connection.place.only_scanner else self.idle
+                if connection.since < time.monotonic() - idle and not connection.is_patient:
+                    connection.close(f"nothing came or was taken for {idle:g} seconds")
 
     async def close(self, why: str) -> None:
         """Closes all connections within two seconds. First answers what is under way, for up to a second."""
         until = time.monotonic() + 1
-        while list(self._since()) and not why.startswith("the hub") and time.monotonic() < until:
+        while any(self._since().values()) and not why.startswith("the hub") and time.monotonic() < until:
             await asyncio.sleep(0.01)
         tasks = [connection.task for connection in self._connections if connection.task]
         for connection in list(self._connections):
             connection.close(why)
         if tasks:
             await asyncio.wait(tasks, timeout=1)
-
-
-def keep_alive(writer: asyncio.StreamWriter) -> None:
-    """Has the kernel notice within a minute that the other end of a TCP connection is gone."""
-    its = writer.get_extra_info("socket")
-    if its.family != socket.AF_UNIX:
-        with contextlib.suppress(AttributeError, OSError):
-            its.setsockopt(socket.SOL_SOCKET, socket.SO_KEEPALIVE, 1)
-            its.setsockopt(socket.IPPROTO_TCP, socket.TCP_KEEPIDLE, 30)
-            its.setsockopt(socket.IPPROTO_TCP, socket.TCP_KEEPINTVL, 10)
-            its.setsockopt(socket.IPPROTO_TCP, socket.TCP_KEEPCNT, 3)

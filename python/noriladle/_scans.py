@@ -16,6 +16,8 @@ _NAME = re.compile(r"[A-Za-z0-9][A-Za-z0-9._:-]{0,63}")
 
 Tell = Callable[[str], None]
 """Sends a line to the other end, without waiting."""
+Seen = Callable[[Union[Answer, Refusal, None], float], None]
+"""Counts an answer, or None for a scan that is unread, and how many seconds it took."""
 
 
 def text_of(answer: Union[Answer, Refusal], elements: bool) -> str:
@@ -44,8 +46,7 @@ class ScanLane:
         self.scanner: Optional[Tell] = None
         self.next: Optional[int] = None
         """The number of the next scan that the tills get; None before a scanner has come."""
-        self.seen: Callable[[Union[Answer, Refusal, None]], None] = lambda answer: None
-        """Counts an answer, or None for a scan that is unread."""
+        self.seen: Seen = lambda answer, seconds: None
         self._lane, self._elements = lane, elements
         self._asked = 0
         self._waiting: Dict[int, Tuple[asyncio.Future[Reply], asyncio.TimerHandle, float]] = {}
@@ -87,7 +88,8 @@ class ScanLane:
         """Sends an answer to the tills, unless the lane no longer waits for it. Answers come in the order of the scans."""
         if number not in self._waiting or self._waiting[number][0] is not reply:
             return
-        self._waiting.pop(number)[1].cancel()
+        _, timer, since = self._waiting.pop(number)
+        timer.cancel()
         answer = None
         if reply.cancelled():
             said = f"unread: no answer in {SECONDS:g} seconds"
@@ -103,7 +105,7 @@ class ScanLane:
         if self.scanner:
             self.scanner(line)
         self._tell(line)
-        self.seen(answer)
+        self.seen(answer, asyncio.get_running_loop().time() - since)
 
     def _tell(self, line: str) -> None:
         for tell in list(self.watchers):
@@ -115,7 +117,7 @@ class Scans:
 
     def __init__(self, hub: Hub, elements: bool, most: int = 256) -> None:
         self.lanes: Dict[str, ScanLane] = {}
-        self.seen: Callable[[Union[Answer, Refusal, None]], None] = lambda answer: None
+        self.seen: Seen = lambda answer, seconds: None
         self._hub, self._elements, self._most = hub, elements, most
 
     def lane(self, name: str) -> ScanLane:

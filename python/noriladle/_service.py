@@ -4,9 +4,7 @@ from __future__ import annotations
 import argparse
 import asyncio
 import contextlib
-import datetime
 import difflib
-import json
 import os
 import re
 import socket
@@ -18,6 +16,7 @@ if sys.version_info >= (3, 11):
 else:
     import tomli as tomllib
 
+from ._log import Log as Log
 from .commands import WrongWords
 
 Loaded = Dict[str, object]
@@ -159,39 +158,6 @@ def _one(action: argparse.Action, value: object) -> object:
     return taken
 
 
-class Log:
-    """Lines to standard error: what happened and to whom, each with its time, unless the journal adds one."""
-
-    def __init__(self, what: str = "faults", as_json: bool = False) -> None:
-        self.all, self.json = what == "all", as_json
-        self._has_time = "JOURNAL_STREAM" in os.environ
-
-    def note(self, what: str, **of: object) -> None:
-        """An event that is no fault: a connection, a takeover, a sender that is refused."""
-        if self.all:
-            self._write("note", what, of)
-
-    def fault(self, what: str, **of: object) -> None:
-        """A fault of the service itself."""
-        self._write("fault", what, of)
-
-    def _write(self, kind: str, what: str, of: Dict[str, object]) -> None:
-        time = datetime.datetime.now(datetime.timezone.utc).strftime("%Y-%m-%dT%H:%M:%S.%f")[:-3] + "Z"
-        if self.json:
-            line = json.dumps({"time": time, "kind": kind, "what": what, **of}, default=str)
-        else:
-            # The journal reads the level from this mark.
-            mark = ("<3>" if kind == "fault" else "<6>") if self._has_time else f"{time} "
-            line = mark + " ".join([what, *(f"{name}={_quoted(value)}" for name, value in of.items())])
-        print(line, file=sys.stderr, flush=True)
-
-
-def _quoted(value: object) -> str:
-    """A value without a blank in it, or as a text between quotation marks."""
-    text = str(value)
-    return text if re.fullmatch(r"[!#-~]+", text) else json.dumps(text)
-
-
 def keep_buffers() -> None:
     """Makes the C library keep the 256 kB buffers of asyncio.
 
@@ -206,6 +172,7 @@ def notify(said: str) -> None:
     address = os.environ.get("NOTIFY_SOCKET", "")
     if address:
         with socket.socket(socket.AF_UNIX, socket.SOCK_DGRAM) as to, contextlib.suppress(OSError):
+            to.settimeout(0.1)  # systemd may be busy; a service does not wait for it.
             to.connect("\0" + address[1:] if address.startswith("@") else address)
             to.sendall(said.encode())
 

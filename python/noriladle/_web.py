@@ -3,17 +3,28 @@ from __future__ import annotations
 
 import argparse
 import asyncio
+import functools
 import re
-from typing import Any, Set
+from http import HTTPStatus
+from typing import Any, List, Optional, Set, Tuple
 from urllib.parse import parse_qs, unquote, urlsplit
 
+from ._door import Full
 from ._gateway import Closed, Gateway
 from ._scans import ScanLane
 from .commands import WrongWords
 
+try:
+    from websockets.legacy.server import WebSocketServerProtocol, serve as serve_pages
+except ImportError as missing:
+    raise WrongWords("--web needs websockets: apt-get install python3-websockets") from missing
+
 UNREAD = 256
 """A page that leaves more lines than this unread is closed."""
-
+TOLD = 16
+"""How many pages without a place are told so at a time; more are closed at once."""
+OPENING = 5.0
+"""How many seconds a page has to ask for its lane."""
 _OF_THIS_MACHINE = re.compile(r"https?://(localhost|127\.0\.0\.1|\[::1\])(:\d+)?")
 
 
@@ -25,18 +36,8 @@ async def serve(gateway: Gateway, port: int, words: argparse.Namespace) -> Any:
 
     :raises WrongWords: the module websockets is not installed.
     """
-    try:
-        import websockets
-    except ImportError as fault:
-        raise WrongWords("--web needs websockets: apt-get install python3-websockets") from fault
-
     async def connected(page: Any, *_: object) -> None:
-        request = getattr(page, "request", page)
-        origin = getattr(request, "headers", getattr(page, "request_headers", {})).get("Origin")
-        if origin and origin not in words.origin and not _OF_THIS_MACHINE.fullmatch(origin):
-            await page.close(1008, f"no page of {origin} may watch"[:120])
-            return
-        url = urlsplit(request.path)
+        url = urlsplit(page.path)
         client = _Page(page)
         try:
             for token in parse_qs(url.query).get("token", []):
@@ -45,6 +46,7 @@ async def serve(gateway: Gateway, port: int, words: argparse.Namespace) -> Any:
             gateway.let(client, "watch", name)
             lane = gateway.scans.lane(name)
         except (Closed, ValueError) as fault:
+            # The page can show it: a browser does not give it what the handshake says.
             await page.close(1008, str(fault)[:120])
             return
         gateway.pages.add(client)
@@ -53,7 +55,52 @@ async def serve(gateway: Gateway, port: int, words: argparse.Namespace) -> Any:
         finally:
             gateway.pages.discard(client)
 
-    return await websockets.serve(connected, "127.0.0.1", port, compression=None, max_size=4096, ping_interval=10, ping_timeout=10)
+    server = await serve_pages(connected, "127.0.0.1", port, create_protocol=functools.partial(_Counted, gateway, words), compression=None,
+                               max_size=4096, ping_interval=10, ping_timeout=10)
+    server.refused = 0
+    return server
+
+
+class _Counted(WebSocketServerProtocol):  # type: ignore[misc]
+    """The connection of a page. It is counted before a byte of it is read, and refused in the handshake."""
+
+    told = 0
+
+    def __init__(self, gateway: Gateway, its_words: argparse.Namespace, *words: Any, **more: Any) -> None:
+        super().__init__(*words, **more)
+        self._gateway, self._words = gateway, its_words
+        self._full = ""
+
+    def connection_made(self, transport: Any) -> None:
+        address = transport.get_extra_info("peername")[0]
+        try:
+            self._place = self._gateway.places.enter(f"address {address}", False)
+        except Full as full:
+            self._full = str(full)
+            self.ws_server.refused += 1
+            _Counted.told += 1
+        super().connection_made(transport)
+        self._opening = asyncio.get_running_loop().call_later(OPENING, transport.abort)
+        if self._full and _Counted.told > TOLD:
+            transport.abort()
+
+    def connection_lost(self, fault: Optional[Exception]) -> None:
+        self._opening.cancel()
+        if self._full:
+            _Counted.told -= 1
+        else:
+            self._gateway.places.leave(self._place)
+        super().connection_lost(fault)
+
+    async def process_request(self, path: str, headers: Any) -> Optional[Tuple[HTTPStatus, List[Tuple[str, str]], bytes]]:
+        """What the page is refused with, or nothing."""
+        self._opening.cancel()
+        origin = headers.get("Origin")
+        if self._full:
+            return HTTPStatus.SERVICE_UNAVAILABLE, [], f"{self._full}\n".encode()
+        if origin and origin not in self._words.origin and not _OF_THIS_MACHINE.fullmatch(origin):
+            return HTTPStatus.FORBIDDEN, [], f"no page of {origin} may watch\n".encode()
+        return None
 
 
 class _Page:

@@ -115,7 +115,8 @@ class Gateway:
     def numbers(self):
         """Its numbers for Prometheus, by name and labels."""
         with urllib.request.urlopen(f"http://127.0.0.1:{self.ports['metrics']}/metrics", timeout=10) as told:
-            return dict(line.rsplit(" ", 1) for line in told.read().decode().splitlines() if not line.startswith("#"))
+            values = dict(line.rsplit(" ", 1) for line in told.read().decode().splitlines() if not line.startswith("#"))
+        return {name: re.sub(r"\.0$", "", value) for name, value in values.items()}
 
     def waits_for(self, **wanted):
         """Waits until its numbers are these; names lack their first part."""
@@ -140,9 +141,9 @@ def most_memory(process):
 class Scanner:
     """`noriladle scanner` on a device, and the lines that it prints."""
 
-    def __init__(self, device, *words, command=(*NORILADLE, "scanner")):
+    def __init__(self, device, *words, command=(*NORILADLE, "scanner"), out=subprocess.PIPE):
         self.process = subprocess.Popen([*command, device, "--year", "2026", *words], bufsize=0, stdin=subprocess.DEVNULL,
-                                        stdout=subprocess.PIPE, stderr=subprocess.PIPE)
+                                        stdout=out, stderr=subprocess.PIPE if out == subprocess.PIPE else out)
 
     def __enter__(self):
         return self

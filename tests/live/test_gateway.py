@@ -230,20 +230,21 @@ def test_too_many_connections(tmp_path):
         gateway.free_lane().__exit__()
 
 
-def test_many_connections(gateway):
+def test_many_connections(tmp_path):
     """Connections above 256 get the reason, and the others are served."""
-    time.sleep(1)  # The one that tried whether it is there has gone.
-    clients = [gateway.unix_client() for _ in range(900)]
-    closed = 0
-    for number, client in enumerate(clients):
-        if number % 50 == 0 and number < 250:
-            assert client.ask(ROW) == f"0 {READ}\n"
-        elif number >= 300:
-            closed += client.lines.readline() == b"closed: there are 256 connections\n"
-    assert closed == 600
-    for client in clients:
-        client.__exit__()
-    gateway.free_lane().__exit__()
+    with Gateway(tmp_path, "--each", "10000") as gateway:
+        time.sleep(1)  # The one that tried whether it is there has gone.
+        clients = [gateway.unix_client() for _ in range(900)]
+        closed = 0
+        for number, client in enumerate(clients):
+            if number % 50 == 0 and number < 250:
+                assert client.ask(ROW) == f"0 {READ}\n"
+            elif number >= 300:
+                closed += client.lines.readline() == b"closed: there are 256 connections\n"
+        assert closed == 600
+        for client in clients:
+            client.__exit__()
+        gateway.free_lane().__exit__()
 
 
 def test_a_line_that_comes_byte_by_byte_is_no_sign_of_life(tmp_path):

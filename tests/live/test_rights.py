@@ -267,7 +267,7 @@ def test_certificates_of_clients(tmp_path, authority):
 def test_clients_that_never_begin_tls(tmp_path, authority):
     """They hold up no other, and are closed after five seconds."""
     key, file = authority.issue("gateway")
-    with Gateway(tmp_path, "--key", str(key), "--cert", str(file)) as gateway:
+    with Gateway(tmp_path, "--key", str(key), "--cert", str(file), "--each", "500", "--connections", "500") as gateway:
         silent = [gateway.connect() for _ in range(300)]
         with speaks(gateway, authority) as client, gateway.unix_client() as here:
             assert client.ask(ROW) == f"0 {READ}\n" and here.ask(ROW) == f"0 {READ}\n"

@@ -24,24 +24,31 @@ from __future__ import annotations
 import argparse
 import asyncio
 import contextlib
+import errno
 import fcntl
+import ipaddress
 import os
+import resource
 import signal
-import ssl
-import sys
-from typing import Any, List, Optional
+import socket
+import stat
+from typing import Any, Iterator, List, Optional
 
-from .. import _service
-from .._gateway import Gateway, keep_alive
+from .. import _health, _service
+from .._door import Door, Places
+from .._gateway import Gateway
+from .._health import Health, Metrics
+from .._log import Log, writer
 from .._rights import all_rights, new_token
-from .._service import Log, Metrics, notify
+from .._service import notify
+from .._tls import Tls, expiry
 from ..live import Hub
 from . import REFUSED, RIGHT, WrongWords, add_ais, add_year
 
-_AT_WORK = ("idle", "kept", "connections", "log", "json", "origin", "rights")
+_AT_WORK = ("idle", "kept", "connections", "each", "log", "json", "origin", "rights")
 """The options that SIGHUP changes while a gateway runs."""
-HANDSHAKE = 5.0
-"""How many seconds a client has to begin TLS."""
+_WARNED = 14 * 86_400.0
+"""How many seconds before its end a certificate is logged at each start and reload."""
 
 
 def add_arguments(parser: argparse.ArgumentParser) -> None:
@@ -60,7 +67,12 @@ def add_arguments(parser: argparse.ArgumentParser) -> None:
                         help="Connections with a lane of their own, 1 to 16 [default: 16]")
     parser.add_argument("--kept", type=_service.count(0, 16), default=4, metavar="N",
                         help="Lanes that TCP connections leave to the UNIX socket [default: 4]")
-    parser.add_argument("--connections", type=_service.count(1, 10_000), default=256, metavar="N", help="Connections at a time [default: 256]")
+    parser.add_argument("--connections", type=_service.count(1, 10_000), default=256, metavar="N",
+                        help="Connections at a time, a quarter of them for the UNIX socket alone [default: 256]")
+    parser.add_argument("--each", type=_service.count(1, 10_000), default=64, metavar="N",
+                        help="Connections of one user of the UNIX socket, or of one address [default: 64]")
+    parser.add_argument("--anyone", action="store_true",
+                        help="Let --host be reached by other machines without a table of rights or without TLS")
     parser.add_argument("--workers", type=_service.count(1, 16), default=2, metavar="N", help="Workers of the hub, 1 to 16 [default: 2]")
     parser.add_argument("--idle", type=_service.seconds, default=60.0, metavar="SECONDS",
                         help="Close a connection that sends no whole line, or takes nothing, for this long [default: 60]")
@@ -89,42 +101,74 @@ def run(words: argparse.Namespace) -> int:
     if words.port is None and not words.unix:
         raise WrongWords("name a socket by --unix or --port")
     words.tls = _tls_of(words)
+    _refuse_anyone(words)
+    _raise_limit(2 * words.connections + 512)
     _service.keep_buffers()
     with _taken(words.unix):
         why = asyncio.run(_run(Hub(words.lanes, words.workers, words.year, ais=words.ais), words))
     return REFUSED if why else RIGHT
 
 
-def _tls_of(words: argparse.Namespace) -> Optional[ssl.SSLContext]:
-    """The TLS context of the port, if it has one."""
+def _tls_of(words: argparse.Namespace) -> Optional[Tls]:
+    """The TLS of the port, if it has one."""
     if not (words.cert and words.key):
         if words.cert or words.key or words.ca:
             raise WrongWords("--cert and --key belong together, and --ca to both")
         return None
-    tls = ssl.create_default_context(ssl.Purpose.CLIENT_AUTH)
-    tls.minimum_version = ssl.TLSVersion.TLSv1_2
+    return Tls(words.cert, words.key, words.ca)
+
+
+def _refuse_anyone(words: argparse.Namespace) -> None:
+    """Refuses a port for other machines that is open to everyone, or whose tokens everyone can read."""
+    if words.port is None or words.anyone or _is_near(words.host):
+        return
+    missing = [said for is_there, said in ((words.tls, "TLS (--cert and --key)"),
+                                           (words.ca or words.rights != all_rights(), "a table of rights, or --ca")) if not is_there]
+    if missing:
+        raise WrongWords(f"other machines reach {words.host}: it needs {' and '.join(missing)}; with --anyone it goes without")
+
+
+def _is_near(host: str) -> bool:
+    """Whether only this machine reaches an address."""
+    found = [ipaddress.ip_address(str(address[0]).partition("%")[0]) for *_, address in _addresses(host, 0)]
+    return all(it.is_loopback for it in found)
+
+
+def _addresses(host: str, port: int) -> List[Any]:
     try:
-        tls.load_cert_chain(words.cert, words.key)
-        if words.ca:
-            tls.load_verify_locations(words.ca)
-            tls.verify_mode = ssl.CERT_REQUIRED
-    except OSError as fault:  # ssl.SSLError is one.
-        raise WrongWords(f"{words.cert}, {words.key}{words.ca and f' or {words.ca}' or ''}: {fault.strerror or fault}") from fault
-    return tls
+        return socket.getaddrinfo(host, port, type=socket.SOCK_STREAM, flags=socket.AI_PASSIVE)
+    except OSError as fault:
+        raise WrongWords(f"--host {host}: {fault.strerror}") from fault
+
+
+def _raise_limit(wanted: int) -> None:
+    """Lets the process have this many descriptors, if the system does."""
+    soft, hard = resource.getrlimit(resource.RLIMIT_NOFILE)
+    most = wanted if hard == resource.RLIM_INFINITY else min(hard, wanted)
+    if soft != resource.RLIM_INFINITY and soft < most:
+        resource.setrlimit(resource.RLIMIT_NOFILE, (most, hard))
 
 
 @contextlib.contextmanager
-def _taken(path: Optional[str]):  # type: ignore[no-untyped-def]
-    """Holds a lock beside the socket, so no second gateway takes its place."""
+def _taken(path: Optional[str]) -> Iterator[None]:
+    """Holds a lock beside the socket, so no second gateway takes its place. Follows no link, and changes no file."""
     if not path:
         yield
         return
-    with open(f"{path}.lock", "w") as lock:
-        try:
-            fcntl.flock(lock, fcntl.LOCK_EX | fcntl.LOCK_NB)
-        except BlockingIOError:
-            raise WrongWords(f"another gateway has {path}; end it, or name another socket") from None
+    name = f"{path}.lock"
+    try:
+        lock = os.open(name, os.O_RDWR | os.O_CREAT | os.O_NOFOLLOW | os.O_NONBLOCK | os.O_CLOEXEC, 0o600)
+    except OSError as fault:
+        if fault.errno == errno.ELOOP:
+            raise WrongWords(f"{name} is a symbolic link: remove it, or name another socket") from fault
+        raise
+    try:
+        fcntl.flock(lock, fcntl.LOCK_EX | fcntl.LOCK_NB)
         yield
+    except BlockingIOError:
+        raise WrongWords(f"another gateway has {path}; end it, or name another socket") from None
+    finally:
+        os.close(lock)
 
 
 async def _run(hub: Hub, words: argparse.Namespace) -> str:
@@ -134,12 +178,13 @@ async def _run(hub: Hub, words: argparse.Namespace) -> str:
         ended = asyncio.ensure_future(hub.ended())
         for number in (signal.SIGTERM, signal.SIGINT):
             loop.add_signal_handler(number, ended.cancel)
-        kept = words.kept if words.unix and words.port is not None else 0
-        gateway = Gateway(hub, words.idle, words.elements, min(kept, hub.lanes - 1), words.connections, log, metrics, words.rights)
-        servers = await _listen(gateway, words, ended)
+        gateway = Gateway(hub, words.idle, words.elements, _kept(words), Places(words.connections, words.each), log, metrics, words.rights)
+        health = Health(lambda: _trip(gateway, ended), metrics)
+        servers = await _listen(gateway, words, health)
+        _tell_of_certificate(words.tls, log)
         if words.config:
-            loop.add_signal_handler(signal.SIGHUP, _load_again, gateway, words)
-        helpers = [asyncio.ensure_future(gateway.sweep()), asyncio.ensure_future(_service.keep_alive(lambda: hub.lane(0).read("")))]
+            _load_again_when_told(gateway, words)
+        helpers = [asyncio.ensure_future(it) for it in (gateway.sweep(), health.keep(), _service.keep_alive(lambda: hub.lane(0).read("")))]
         notify("READY=1")
         await asyncio.wait([ended])
         notify("STOPPING=1")
@@ -157,59 +202,118 @@ async def _run(hub: Hub, words: argparse.Namespace) -> str:
     return why
 
 
-async def _listen(gateway: Gateway, words: argparse.Namespace, ended: asyncio.Future) -> List[asyncio.AbstractServer]:  # type: ignore[type-arg]
+async def _trip(gateway: Gateway, ended: "asyncio.Future[Any]") -> str:
+    return "the gateway stops" if ended.done() else await gateway.trip()
+
+
+def _kept(words: argparse.Namespace) -> int:
+    """How many lanes TCP connections leave to the UNIX socket."""
+    return int(min(words.kept, words.lanes - 1)) if words.unix and words.port is not None else 0
+
+
+def _tell_of_certificate(tls: Optional[Tls], log: Log) -> None:
+    """Logs a certificate that has expired or expires soon."""
+    if tls and tls.is_due(_WARNED):
+        log.fault(f"{expiry(tls.ends)}: renew it, and reload the service")
+
+
+async def _listen(gateway: Gateway, words: argparse.Namespace, health: Health) -> List[Any]:
     """Opens the sockets. Only owner and group may use that in the file system."""
-    servers: List[asyncio.AbstractServer] = []
+    tls: Optional[Tls] = words.tls
 
-    def connected(reader: asyncio.StreamReader, writer: asyncio.StreamWriter):  # type: ignore[no-untyped-def]
-        keep_alive(writer)
-        return gateway.connected(reader, writer)
+    def door(its: socket.socket) -> Door:
+        return Door(its, gateway.places, gateway.connected, gateway.log, lambda: tls.context if tls else None)
 
-    if words.unix:
-        mask = os.umask(0o117)
-        servers.append(await asyncio.start_unix_server(connected, words.unix))
-        os.umask(mask)
+    doors = [door(_unix_socket(words.unix))] if words.unix else []
     if words.port is not None:
-        servers.append(_named("port", await asyncio.start_server(
-            connected, words.host, words.port, ssl=words.tls, ssl_handshake_timeout=HANDSHAKE if words.tls else None)))
+        doors += [_named("port", door(its)) for its in _tcp_sockets(words.host, words.port)]
+    servers: List[Any] = list(doors)
     if words.web is not None:
         from .._web import serve
         servers.append(_named("web", await serve(gateway, words.web, words)))
-    if words.metrics is not None:
-        def is_ready() -> str:
-            return "the gateway stops" if ended.done() else ""
-        servers.append(_named("metrics", await _service.serve_health(words.metrics, is_ready, gateway.metrics)))
-    return servers
+    gateway.metrics.count_of("noriladle_places_refused_total", "Connections for which there was no place.",
+                             lambda: float(sum(it.refused for it in servers)))
+    if tls:
+        gateway.metrics.gauge("noriladle_certificate_end_timestamp_seconds", "When the certificate expires, in seconds since 1970.",
+                              lambda: tls.ends if tls else 0)
+    if words.metrics is None:
+        return servers
+    try:
+        return [*servers, _named("metrics", await _health.serve(words.metrics, health, gateway.metrics))]
+    except OSError as fault:
+        gateway.log.fault(f"--metrics {words.metrics}: {fault.strerror}; the gateway goes on without")
+        return servers
 
 
-def _named(name: str, server: asyncio.AbstractServer) -> asyncio.AbstractServer:
+def _unix_socket(path: str) -> socket.socket:
+    """A socket in the file system, in place of one that was left there."""
+    with contextlib.suppress(FileNotFoundError):
+        if stat.S_ISSOCK(os.lstat(path).st_mode):
+            os.unlink(path)
+    its = socket.socket(socket.AF_UNIX)
+    mask = os.umask(0o117)
+    try:
+        its.bind(path)
+    except OSError as fault:
+        raise OSError(fault.errno, fault.strerror, path) from fault
+    finally:
+        os.umask(mask)
+    its.listen(256)
+    return its
+
+
+def _tcp_sockets(host: str, port: int) -> Iterator[socket.socket]:
+    for family, _, _, _, address in _addresses(host, port):
+        try:
+            yield socket.create_server(address, family=family, backlog=256)
+        except OSError as fault:
+            if fault.errno != errno.EAFNOSUPPORT:
+                raise
+
+
+def _named(name: str, server: Any) -> Any:
     """Prints the port of a server, since the system may have chosen it."""
-    print(name, server.sockets[0].getsockname()[1], file=sys.stderr, flush=True)  # type: ignore[attr-defined]
+    writer(2)(f"{name} {server.sockets[0].getsockname()[1]}")
     return server
 
 
-def _load_again(gateway: Gateway, words: argparse.Namespace) -> None:
-    """Reads the option file again, and applies what it can while the gateway runs."""
-    notify("RELOADING=1")
+def _load_again_when_told(gateway: Gateway, words: argparse.Namespace) -> None:
+    """Reads the option file and the certificate again at each SIGHUP."""
+    is_right = True
+
+    def load_again() -> None:
+        nonlocal is_right
+        notify("RELOADING=1")
+        is_right = _load_again(gateway, words)
+        notify("READY=1")
+
+    asyncio.get_running_loop().add_signal_handler(signal.SIGHUP, load_again)
+    gateway.metrics.gauge("noriladle_config_last_reload_successful", "1 if the last reload took the option file and the certificate, else 0.",
+                          lambda: is_right)
+
+
+def _load_again(gateway: Gateway, words: argparse.Namespace) -> bool:
+    """Applies what it can of the option file while the gateway runs. Returns whether nothing was refused."""
+    faults: List[str] = []
     try:
-        loaded = words.load_again()
+        for name, value in words.load_again().items():
+            if name in _AT_WORK:
+                setattr(words, name, value)
+            elif getattr(words, name) != value:
+                faults.append(f"{name} changes when the gateway is started again")
     except WrongWords as fault:
-        gateway.log.fault(str(fault))
-        loaded = {}
-    for name, value in loaded.items():
-        if name in _AT_WORK:
-            setattr(words, name, value)
-        elif getattr(words, name) != value:
-            gateway.log.fault(f"{name} changes when the gateway is started again")
-    gateway.idle, gateway.most = words.idle, words.connections
-    gateway.kept = min(words.kept, gateway.hub.lanes - 1) if words.unix and words.port is not None else 0
+        faults.append(str(fault))
+    gateway.idle, gateway.kept = words.idle, _kept(words)
+    gateway.places.most, gateway.places.each = words.connections, words.each
     gateway.change_rights(words.rights)
-    if words.tls:
-        # The file may have a new certificate.
-        try:
-            words.tls.load_cert_chain(words.cert, words.key)
-        except OSError as fault:
-            gateway.log.fault(f"{words.cert}: {fault.strerror or fault}")
     gateway.log.all, gateway.log.json = words.log == "all", words.json
+    if words.tls:
+        try:
+            words.tls.load_again()
+        except WrongWords as fault:
+            faults.append(f"{fault}; the gateway keeps the certificate that it has")
+        _tell_of_certificate(words.tls, gateway.log)
+    for said in faults:
+        gateway.log.fault(said)
     gateway.log.note("loaded", file=words.config)
-    notify("READY=1")
+    return not faults

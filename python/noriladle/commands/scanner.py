@@ -24,6 +24,7 @@ from typing import List, Optional
 from .. import Ais, Refusal, _service, read_scan
 from .._keys import EVENT, FOREIGN, LOST, Keyboard, events_of, grab, make_keyboard
 from .._link import Link
+from .._log import writer
 from .._scans import is_name
 from .._service import notify
 from . import REFUSED, RIGHT, WrongWords, add_ais, add_year, tell
@@ -198,7 +199,7 @@ class _Scanner:
             some = b""
         if not some:
             self._end()
-            tell(f"{self._words.device}: unplugged")
+            writer(2)(f"{self._words.device}: unplugged")
             return
         for text in self._texts.take(self._keyboard.typed(some) if self._keyboard else some):
             self._scan(text)
@@ -222,13 +223,15 @@ class _Scanner:
             self._number += 1
 
     def _said(self, number: int, said: str) -> None:
-        """Prints an answer, and types what it says."""
-        print(number, said, flush=True)
+        """Prints an answer, and types what it says. If nobody reads it any more, only a till needs the scanner."""
+        writer(1)(f"{number} {said}")
+        if writer(1).is_broken and not self._link:
+            self._end()
         if self._typist is not None and not said.startswith(("refused ", "unread: ")):
             _type(self._typist, self._words.type, said)
 
     def _note(self, why: str) -> None:
-        tell(f"noriladle scanner: {why}")
+        writer(2)(f"noriladle scanner: {why}")
 
 
 def _checked(text: bytes, year: int, ais: Ais) -> str:

@@ -1,0 +1,125 @@
+"""Logs that are full or that nobody reads: every client is answered all the same. A full disk is /dev/full."""
+import fcntl
+import os
+import select
+import signal
+import socket
+import subprocess
+import time
+import urllib.request
+
+import pytest
+
+from gateway_and_scanners import NORILADLE, ROW, Client, Gateway, Serial
+from program_and_rows import READ
+
+LIMIT = 150
+COUNT = 1_500
+"""Connections; each logs two lines, and a pipe that nobody reads is full after some 500."""
+
+
+class Blocked:
+    """A gateway whose standard error goes to a file or a pipe; it logs everything."""
+
+    def __init__(self, folder, error, *words):
+        self.unix = str(folder / "hub")
+        self.process = subprocess.Popen([*NORILADLE, "gateway", "--year", "2026", "--unix", self.unix, "--log", "all", *words], stderr=error)
+        until = time.monotonic() + 20
+        while not os.path.exists(self.unix):
+            assert self.process.poll() is None and time.monotonic() < until
+            time.sleep(0.02)
+
+    def __enter__(self):
+        return self
+
+    def __exit__(self, *_):
+        self.process.kill()
+        self.process.wait()
+
+    def answers(self, count):
+        """Asks over this many connections, one after the other; a second is the most that each may wait."""
+        for number in range(count):
+            with Client(self.unix, socket.AF_UNIX) as client:
+                client.socket.settimeout(1)
+                assert client.ask(ROW) == f"0 {READ}\n", number
+
+
+def small_pipe():
+    """A pipe of a page."""
+    unread, end = os.pipe()
+    fcntl.fcntl(end, 1031, 4096)  # F_SETPIPE_SZ
+    return unread, end
+
+
+def test_a_log_on_a_full_disk(tmp_path):
+    with open("/dev/full", "w") as full, Blocked(tmp_path, full) as gateway:
+        gateway.answers(300)
+
+
+def test_a_log_that_nobody_reads(tmp_path):
+    unread, end = small_pipe()
+    with Blocked(tmp_path, end) as gateway:
+        gateway.answers(COUNT)
+        # A gateway that cannot write its log ends when it is told to.
+        gateway.process.terminate()
+        assert gateway.process.wait(10) == 0
+    os.close(end)
+    os.close(unread)
+
+
+def free_port():
+    with socket.socket() as free:
+        free.bind(("127.0.0.1", 0))
+        return free.getsockname()[1]
+
+
+def test_lines_without_room_are_counted(tmp_path, monkeypatch):
+    """The number says how many; when the log has room again a line does, and later lines follow."""
+    port = free_port()
+    unread, end = small_pipe()
+    with Blocked(tmp_path, end, "--metrics", str(port)) as gateway:
+        def dropped():
+            with urllib.request.urlopen(f"http://127.0.0.1:{port}/metrics", timeout=2) as told:
+                return next(float(line.split()[1]) for line in told.read().decode().splitlines()
+                            if line.startswith("noriladle_log_lines_dropped_total"))
+
+        gateway.answers(6_000)
+        count = dropped()
+        assert count > 1_000
+        os.set_blocking(unread, False)
+        said = b""
+        until = time.monotonic() + 20
+        while b" log lines were dropped" not in said:
+            assert time.monotonic() < until
+            if select.select([unread], [], [], 0.1)[0]:
+                said = (said + os.read(unread, 65_536))[-1_000_000:]
+            else:
+                gateway.answers(1)
+        assert b" %d log lines were dropped" % count in said
+    os.close(end)
+    os.close(unread)
+
+
+def test_a_journal_that_was_stopped(tmp_path):
+    """journald holds the other end of a socket, and takes nothing while it is stopped."""
+    here, there = socket.socketpair(socket.AF_UNIX)
+    here.setsockopt(socket.SOL_SOCKET, socket.SO_SNDBUF, 4096)
+    with here, there, Blocked(tmp_path, here.fileno()) as gateway:
+        gateway.answers(COUNT)
+
+
+@pytest.mark.parametrize("how", ["full", "unread"])
+def test_a_scanner_whose_lines_nobody_takes(tmp_path, how):
+    """The till has every scan."""
+    with Gateway(tmp_path, port=False) as gateway, gateway.watch("till-1") as till:
+        unread, end = small_pipe()
+        with Serial("--gateway", gateway.unix, "--lane", "till-1", out=os.open("/dev/full", os.O_WRONLY) if how == "full" else end) as scanner:
+            assert till.line() == "0 next\n"
+            for number in range(500):
+                scanner.send(b"]E09501101530003\r", size=100)
+                assert till.line() == f"{number} {READ}\n"
+            assert scanner.process.poll() is None
+            scanner.process.send_signal(signal.SIGTERM)
+            assert scanner.process.wait(10) == 0
+        os.close(end)
+        os.close(unread)
