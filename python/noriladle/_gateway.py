@@ -7,20 +7,25 @@ import math
 import re
 import socket
 import time
-from typing import AsyncIterator, Awaitable, Dict, List, Optional, Protocol, Set, Tuple, Union
+from typing import AsyncIterator, Awaitable, Callable, Dict, List, Optional, Protocol, Set, Tuple, Union
 
 from . import Answer, Refusal
 from ._door import Place, Places
 from ._health import Metrics
 from ._log import Log
 from ._rights import Rights, all_rights, name_of_token, unix_names
-from ._scans import Scans, ScanLane, text_of
+from ._scans import Listener, ScanLane, Scans, is_series, text_of
 from .live import Hub, HubEnded, Lane
 
 CUT = 65_536 + 1
 """How many bytes are kept of a line that has not ended: the hub refuses it as too long anyway."""
 
 _SCAN = re.compile(rb"(\d{1,18})(?:([ \t])(.*))?", re.DOTALL)
+_TIMED_SCAN = re.compile(rb"(\d{1,18}) (\d{1,11}\.\d{3})(?:([ \t])(.*))?", re.DOTALL)
+ROWS_AHEAD = 64
+"""How many rows of a connection may be under way."""
+LINES = 64
+"""After so many lines of one connection the others have their turn."""
 _HTTP = re.compile(rb"[A-Z]+ \S+ HTTP/[0-9.]+\r?")
 OWN, ITS_ANSWER = "]E09501101530003", "]E0 (01)09501101530003"
 """The text of the gateway's own scan, and the right answer to it."""
@@ -122,7 +127,7 @@ class Rows:
         connection.since = math.inf
         begin = gateway.began[self] = time.monotonic()
         try:
-            async for reply in self._lane.read_all(lines):
+            async for reply in self._lane.read_all(lines, ROWS_AHEAD):
                 number = "-" if reply.number is None else next(self._numbers)
                 answers.append(f"{number} {text_of(reply.answer, gateway.elements)}\n")
                 gateway.seen(reply.answer, time.monotonic() - begin)
@@ -139,37 +144,56 @@ class Rows:
 
 class Scanner:
     """The scanner of a lane. A line is the number of a scan, a blank and its text; or a number, a tab and why that scan
-    has no text; or the number of the next scan alone."""
+    has no text; or the number of the next scan alone. In form 2 the time stands behind the number."""
 
-    def __init__(self, connection: Connection, lane: ScanLane) -> None:
+    def __init__(self, gateway: Gateway, connection: Connection, lane: ScanLane, form: int, series: str) -> None:
         if lane.scanner:
+            if not lane.is_contested:  # It tries again each second.
+                gateway.log.note("a second scanner was refused", lane=lane.name, peer=connection.peer)
+            lane.is_contested = True
+            lane.refused += 1
             raise Closed(f"lane {lane.name} has a scanner")
-        self._lane = lane
-        self._tell = Teller(connection)
-        lane.scanner = self._tell
-        self._tell(f"{lane.next or 0} next\n")
+        self._scans, self._lane = gateway.scans, lane
+        lane.scanner = self._listener = Listener(Teller(connection), form)
+        number = lane.join(series)
+        self._listener.tell(f"{number} {time.time():.3f} next {lane.series}\n" if form > 1 else f"{number} next\n")
 
     async def take(self, lines: List[bytes]) -> None:
-        for line in lines:
-            found = _SCAN.fullmatch(line)
-            if not found:
-                raise Closed("a scan is a number, a blank and a text")
-            number, mark, text = int(found[1]), found[2], found[3]
+        turn = self._scans.turn()
+        for count, line in enumerate(lines, 1):
+            if count % LINES == 0:
+                await asyncio.sleep(0)
+            if self._lane.waiting >= turn:
+                turn = self._scans.turn()
+                await self._lane.room(turn)
             try:
-                if mark:
-                    self._lane.scan(number, b"" if mark == b"\t" else text, _why(text) if mark == b"\t" else "")
-                else:
-                    self._lane.begin(number)
+                self._take(line)
             except ValueError as fault:
                 raise Closed(str(fault)) from fault
 
+    def _take(self, line: bytes) -> None:
+        if self._listener.form > 1:
+            found = _TIMED_SCAN.fullmatch(line)
+            if not found:
+                raise Closed("a scan is a number, its time, a blank and a text")
+            at, mark, text = float(found[2]), found[3], found[4]
+        else:
+            found = _SCAN.fullmatch(line)
+            if not found:
+                raise Closed("a scan is a number, a blank and a text")
+            at, mark, text = None, found[2], found[3]
+        if mark:
+            self._lane.scan(int(found[1]), b"" if mark == b"\t" else text, at, _why(text) if mark == b"\t" else "")
+        else:
+            self._lane.begin(int(found[1]))
+
     async def finish(self) -> None:
         """Its client sends nothing more, and may still wait for answers."""
-        while self._lane.under_way:
+        while self._lane.waiting:
             await asyncio.sleep(0.005)
 
     def end(self) -> None:
-        self._lane.scanner = None
+        self._lane.scanner, self._lane.is_contested = None, False
 
 
 def _why(text: bytes) -> str:
@@ -180,17 +204,17 @@ def _why(text: bytes) -> str:
 class Till:
     """A till that watches a lane. It sends nothing."""
 
-    def __init__(self, connection: Connection, lane: ScanLane) -> None:
+    def __init__(self, connection: Connection, lane: ScanLane, form: int) -> None:
         self._lane = lane
-        self._tell = Teller(connection)
-        lane.watch(self._tell)
+        self._listener = Listener(Teller(connection), form)
+        lane.watch(self._listener)
 
     async def take(self, lines: List[bytes]) -> None:
         if lines:
             raise Closed("a till that watches a lane sends nothing more")
 
     def end(self) -> None:
-        self._lane.watchers.discard(self._tell)
+        self._lane.leave(self._listener)
 
 
 class Teller:
@@ -201,10 +225,22 @@ class Teller:
 
     def __call__(self, line: str) -> None:
         writer = self._connection.writer
+        if writer.transport.is_closing():
+            return
         if writer.transport.get_write_buffer_size() > UNREAD_LINES:
             self._connection.close("what was told is not taken")
         else:
             writer.write(line.encode())
+
+
+def _first(line: bytes) -> Tuple[str, str, int, str]:
+    """What the first line of a connection says: a word, a lane, the form of the lines, and the series of a scanner's numbers."""
+    word, _, rest = line.rstrip(b"\r").decode("ascii", "replace").partition(" ")
+    name, mark, more = rest.partition(" 2")
+    series = more[1:]
+    if mark and (not more or (word == "scan" and is_series(series))):
+        return word, name, 2, series
+    return word, rest, 1, ""
 
 
 class Gateway:
@@ -231,13 +267,18 @@ class Gateway:
         of = self.metrics
         self._answers = of.counter("noriladle_answers_total", "Rows and texts that were answered, refusals among them.")
         self._refusals = of.counter("noriladle_refusals_total", "Rows and texts that were refused, by the number of the refusal.", "number")
-        self._unread = of.counter("noriladle_unread_total", "Scans without an answer in their time.")
         self._took = of.histogram("noriladle_answer_seconds", "How long the hub took for an answer.")
         self._closed = of.counter("noriladle_closed_total", "Connections that the gateway closed.")
         of.gauge("noriladle_connections", "Connections.", lambda: self.places.taken)
         of.gauge("noriladle_lanes_free", "Lanes that no connection has.", lambda: len(self.free))
-        of.gauge("noriladle_scanner_connected", "1 if the lane has a scanner, else 0.",
-                 lambda: {it.name: bool(it.scanner) for it in self.scans.lanes.values()}, "lane")
+        def by_lane(value: Callable[[ScanLane], float]) -> Callable[[], Dict[str, float]]:
+            return lambda: {it.name: value(it) for it in self.scans.lanes.values()}
+
+        of.gauge("noriladle_scanner_connected", "1 if the lane has a scanner, else 0.", by_lane(lambda it: bool(it.scanner)), "lane")
+        of.count_of("noriladle_scans_total", "Scans of the lane.", by_lane(lambda it: it.scans), "lane")
+        of.count_of("noriladle_unread_total", "Scans without an answer in their time.", by_lane(lambda it: it.unread), "lane")
+        of.count_of("noriladle_lost_total", "Scans that a scanner could not send.", by_lane(lambda it: it.lost), "lane")
+        of.count_of("noriladle_scanners_refused_total", "Scanners that found another one on their lane.", by_lane(lambda it: it.refused), "lane")
         of.gauge("noriladle_tills", "Tills.", lambda: sum(len(it.watchers) for it in self.scans.lanes.values()))
         of.gauge("noriladle_unanswered", "Scans without an answer yet; of the lane - turns of rows.",
                  lambda: {name: len(since) for name, since in self._since().items()}, "lane")
@@ -254,7 +295,6 @@ class Gateway:
     def seen(self, answer: Union[Answer, Refusal, None], seconds: float) -> None:
         """Counts an answer, and how long it took; None is a scan without one."""
         if answer is None:
-            self._unread.add()
             return
         self._answers.add()
         self._took.see(seconds)
@@ -339,7 +379,7 @@ class Gateway:
         """What the connection is for, by its first line; and the other lines."""
         if _HTTP.fullmatch(lines[0]):
             raise Closed("this port is not for web pages")
-        word, _, name = lines[0].rstrip(b"\r").decode("ascii", "replace").partition(" ")
+        word, name, form, series = _first(lines[0])
         if connection.place.only_scanner and word != "scan":
             raise Closed(connection.place.only_scanner)
         if word not in ("scan", "watch"):
@@ -352,10 +392,10 @@ class Gateway:
             raise Closed(str(fault)) from fault
         role: Role
         if word == "scan":
-            role = Scanner(connection, lane)
+            role = Scanner(self, connection, lane, form, series)
             self.places.settle(connection.place)
         else:
-            role = Till(connection, lane)
+            role = Till(connection, lane, form)
         connection.is_patient = True
         self.log.note("scanner" if word == "scan" else "till", lane=name, peer=connection.peer)
         return role, lines[1:]

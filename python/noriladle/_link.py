@@ -6,13 +6,18 @@ import time
 from collections import deque
 from typing import Callable, Deque, List, NamedTuple, Optional
 
-from ._scans import SECONDS
+from ._scans import SECONDS, new_series
 
 _BETWEEN, _REFUSED = 0.1, 1.0
 """Seconds until the next attempt, if there is no gateway, and if it has refused the scanner."""
 
 Said = Callable[[int, str], None]
 """Called with the number of a scan, and its answer or why it has none."""
+
+
+def now() -> float:
+    """Seconds of a clock that goes on while the machine sleeps, and that nobody sets."""
+    return time.clock_gettime(time.CLOCK_BOOTTIME)
 
 
 class _Scan(NamedTuple):
@@ -24,16 +29,19 @@ class _Scan(NamedTuple):
 class Link:
     """A scanner's connection to a gateway over its UNIX socket. It connects again whenever the connection ends.
 
-    Each scan has a number, one more than the last. A scan that may have been sent is never sent again, since the till
-    may have got it: it is unread. So is a scan for which there is no gateway within two seconds. At the next connection
-    the gateway gets the number of the next scan, which shows the till what was lost.
+    Each scan has a number, one more than the last, and its time. A scan that may have been sent is never sent again, since
+    the till may have got it: it is unread. So is a scan for which there is no gateway within two seconds. At the next
+    connection the gateway gets the number of the next scan, which shows the till what was lost.
     """
 
     def __init__(self, path: str, lane: str, said: Said, note: Callable[[str], None]) -> None:
         self.socket: Optional[socket.socket] = None
         self._path, self._lane, self._said, self._note = path, lane, said, note
         self._number = 0
-        self._is_fresh, self._is_open, self._has_lost = True, False, False
+        self._series = new_series()
+        self._is_open = False
+        self._lost = 0
+        """How many scans were given up since the gateway got the number of the next one."""
         self._kept: Deque[_Scan] = deque()
         self._sent: Deque[_Scan] = deque()
         self._out = self._in = b""
@@ -43,7 +51,7 @@ class Link:
     @property
     def is_waiting(self) -> bool:
         """Whether a scan has no answer yet, or the till does not know yet that one was lost."""
-        return bool(self._kept or self._sent) or self._has_lost
+        return bool(self._kept or self._sent or self._lost)
 
     @property
     def wants_to_write(self) -> bool:
@@ -51,20 +59,20 @@ class Link:
         return bool(self._out)
 
     def next_step(self) -> float:
-        """The time of ``time.monotonic`` at which :meth:`step` has something to do."""
+        """The time of :func:`now` at which :meth:`step` has something to do."""
         first = [scans[0].until for scans in (self._sent, self._kept) if scans]
         return min([*first, *([] if self.socket else [self._again])], default=float("inf"))
 
-    def scan(self, text: bytes) -> None:
-        """Sends a text, or keeps it for up to two seconds."""
-        self._take(b" " + text)
+    def scan(self, text: bytes, at: float) -> None:
+        """Sends a text that was read at this time, in seconds since 1970, or keeps it for up to two seconds."""
+        self._take(b"%.3f %b" % (at, text))
 
     def unread(self, why: str) -> None:
         """Reports a scan without a text to the till."""
-        self._take(b"\t" + why.encode())
+        self._take(b"%.3f\t%b" % (time.time(), why.encode()))
 
     def _take(self, line: bytes) -> None:
-        scan = _Scan(self._number, time.monotonic() + SECONDS, line)
+        scan = _Scan(self._number, now() + SECONDS, line)
         self._number += 1
         if self._is_open:
             self._send(scan)
@@ -73,16 +81,19 @@ class Link:
 
     def step(self) -> None:
         """Gives up scans that have waited too long, and connects if there is no connection."""
-        now = time.monotonic()
-        while self._kept and self._kept[0].until <= now:
-            self._said(self._kept.popleft().number, f"unread: {self._why or 'no gateway'}")
-            self._has_lost = True
-        if self._sent and self._sent[0].until <= now:
+        self._drop_old()
+        if self._sent and self._sent[0].until <= now():
             # All scans wait for the same gateway. Tell it that nobody waits any more.
             self._give_up(f"no answer in {SECONDS:g} seconds")
             self._tell_next(self._number)
-        if not self.socket and self._again <= now:
+        if not self.socket and self._again <= now():
             self._connect()
+
+    def _drop_old(self) -> None:
+        """Gives up scans that have waited too long for a gateway."""
+        while self._kept and self._kept[0].until <= now():
+            self._lost += 1
+            self._said(self._kept.popleft().number, f"unread: {self._why or 'no gateway'}")
 
     def take_answers(self) -> None:
         """Reads what the gateway has sent. Its connection may have ended."""
@@ -122,12 +133,12 @@ class Link:
             found.connect(self._path)
         except OSError as fault:
             found.close()
-            self._again = time.monotonic() + _BETWEEN
+            self._again = now() + _BETWEEN
             self._tell(f"{self._path}: {fault.strerror}")
             return
         found.setblocking(False)
         self.socket, self._in, self._out, self._between = found, b"", b"", _BETWEEN
-        self._write(f"scan {self._lane}\n".encode())
+        self._write(f"scan {self._lane} 2 {self._series}\n".encode())
 
     def _tell(self, why: str) -> None:
         """Remembers why there is no gateway, and logs it once."""
@@ -140,21 +151,25 @@ class Link:
             self._between = _REFUSED
             self._tell(line[len("closed: "):])
             return
-        word, _, said = line.partition(" ")
+        word, _, rest = line.partition(" ")
+        said = rest.partition(" ")[2]
         number = int(word) if word.isdecimal() else -1
-        if said == "next" and not self._is_open:
-            self._begin(number)
-        elif self._sent and number == self._sent[0].number:
+        if said.startswith("next "):
+            if not self._is_open:
+                self._begin(number, said[len("next "):])
+        elif self._sent and number == self._sent[0].number and self._sent[0].until > now():
             self._sent.popleft()
             self._said(number, said)
 
-    def _begin(self, number: int) -> None:
-        """The gateway expects this number: its numbers go on from an earlier scanner's, or from this one's."""
+    def _begin(self, number: int, series: str) -> None:
+        """The gateway expects this number. In the same series the numbers go on from the larger one; in another from the
+        gateway's, with a gap for what was lost."""
+        self._drop_old()
         first = self._kept[0].number if self._kept else self._number
-        more = number if self._is_fresh else max(0, number - first)
+        more = (max(number, first) if series == self._series else number + self._lost) - first
         self._kept = deque(scan._replace(number=scan.number + more) for scan in self._kept)
         self._number += more
-        self._is_fresh, self._is_open, self._why = False, True, ""
+        self._series, self._is_open, self._why = series, True, ""
         self._tell_next(first + more)
         kept: List[_Scan] = list(self._kept)
         self._kept.clear()
@@ -163,12 +178,12 @@ class Link:
 
     def _tell_next(self, number: int) -> None:
         """Sends the number of the next scan, so the till knows which were lost."""
-        self._has_lost = False
-        self._write(b"%d\n" % number)
+        self._lost = 0
+        self._write(b"%d %.3f\n" % (number, time.time()))
 
     def _send(self, scan: _Scan) -> None:
         self._sent.append(scan)
-        self._write(b"%d%b\n" % (scan.number, scan.line))
+        self._write(b"%d %b\n" % (scan.number, scan.line))
 
     def _write(self, line: bytes) -> None:
         self._out += line
@@ -178,11 +193,11 @@ class Link:
         """The connection has ended. Scans that were sent and have no answer are not sent again."""
         self.close()
         self._is_open = False
-        self._again = time.monotonic() + self._between
+        self._again = now() + self._between
         self._give_up(why)
         self._tell(why)
 
     def _give_up(self, why: str) -> None:
-        self._has_lost |= bool(self._sent)
+        self._lost += len(self._sent)
         while self._sent:
             self._said(self._sent.popleft().number, f"unread: {why}")

@@ -4,6 +4,7 @@ from __future__ import annotations
 import atexit
 import datetime
 import json
+import logging
 import os
 import queue
 import re
@@ -117,6 +118,24 @@ class Log:
         # The journal reads the level from this mark.
         mark = ("<3>" if kind == "fault" else "<6>") if self._has_time else f"{time} "
         return mark + " ".join([what, *(f"{name}={_quoted(value)}" for name, value in of.items())])
+
+
+class _Logged(logging.Handler):
+    """Has a log write what the libraries say."""
+
+    def __init__(self, log: Log) -> None:
+        super().__init__(logging.WARNING)
+        self._log = log
+
+    def emit(self, record: logging.LogRecord) -> None:
+        """Writes a line, with the last line of a traceback."""
+        fault = record.exc_info[1] if record.exc_info else None
+        self._log.fault(record.getMessage().partition("\n")[0], by=record.name, **({"fault": repr(fault)} if fault else {}))
+
+
+def take_libraries(log: Log) -> None:
+    """Has a log write what the libraries of this process say, which otherwise wait for whoever reads it."""
+    logging.root.handlers[:] = [_Logged(log)]
 
 
 def _quoted(value: object) -> str:

@@ -1,18 +1,33 @@
-"""Lanes with names. Each has a scanner and the tills that watch it; all of them get each scan at once."""
+"""Lanes with names. Each has a scanner and the tills that watch it; all of them get each scan at once.
+
+Lines have two forms. In form 1 a scan is ``17 ]E0 (01)09501101530003``. In form 2 its time stands behind its number, in
+seconds since 1970, and each 5 seconds comes a line such as ``18 1764493234.123 next 5f3a9c01``: the next scan, the
+gateway's time, and the name of the series of numbers.
+"""
 from __future__ import annotations
 
 import asyncio
 import functools
 import re
-from typing import Callable, Dict, List, Optional, Set, Tuple, Union
+import secrets
+import time
+from dataclasses import dataclass
+from typing import Callable, Dict, List, Optional, Union
 
 from . import Answer, Refusal
 from .live import Hub, Lane, Reply
 
 SECONDS = 2.0
 """How long a scan may wait for its answer. Then it is unread, so the next customer does not get its answer."""
+BEAT = 5.0
+"""How many seconds lie between two lines that say that the gateway is there, in form 2."""
+LAST = 999_999_999_999_999
+"""The largest number of a scan. A scanner that comes when half of the numbers are used begins a new series."""
+TURN, LEAST_TURN = 64, 8
+"""How many scans of all lanes may be under way before each lane has its share of them; and the least share."""
 
 _NAME = re.compile(r"[A-Za-z0-9][A-Za-z0-9._:-]{0,63}")
+_SERIES = re.compile(r"[0-9a-f]{8}")
 
 Tell = Callable[[str], None]
 """Sends a line to the other end, without waiting."""
@@ -32,6 +47,35 @@ def is_name(word: str) -> bool:
     return bool(_NAME.fullmatch(word))
 
 
+def is_series(word: str) -> bool:
+    """Whether a word may be the name of a series of numbers."""
+    return bool(_SERIES.fullmatch(word))
+
+
+def new_series() -> str:
+    """The name of a series of numbers that no other has."""
+    return secrets.token_hex(4)
+
+
+@dataclass(frozen=True)
+class Listener:
+    """Somebody who gets the lines of a lane, in form 1 or 2."""
+
+    tell: Tell
+    form: int = 1
+
+
+@dataclass
+class _Asked:
+    """A scan without an answer yet: when the lane asked, by the clock of the loop, and when it was scanned, since 1970."""
+
+    reply: "asyncio.Future[Reply]"
+    since: float
+    time: float
+    unread: str
+    timer: Optional[asyncio.TimerHandle] = None
+
+
 class ScanLane:
     """A lane with a name. The scanner's program numbers its scans, each one more than the last.
 
@@ -42,74 +86,154 @@ class ScanLane:
 
     def __init__(self, name: str, lane: Lane, elements: bool) -> None:
         self.name = name
-        self.watchers: Set[Tell] = set()
-        self.scanner: Optional[Tell] = None
+        self.watchers: List[Listener] = []
+        self.scanner: Optional[Listener] = None
         self.next: Optional[int] = None
         """The number of the next scan that the tills get; None before a scanner has come."""
+        self.series = ""
+        """The name of its series of numbers. In a series no number comes twice."""
+        self.is_contested = False
+        """Whether another scanner came while the lane had this one."""
+        self.scans = self.unread = self.lost = self.refused = 0
+        """How many scans came, had no answer, never came, and how many scanners found the lane taken."""
         self.seen: Seen = lambda answer, seconds: None
         self._lane, self._elements = lane, elements
         self._asked = 0
-        self._waiting: Dict[int, Tuple[asyncio.Future[Reply], asyncio.TimerHandle, float]] = {}
+        self._waiting: Dict[int, _Asked] = {}
+        self._room: Optional[asyncio.Future[None]] = None
 
     @property
     def under_way(self) -> List[float]:
         """When the lane asked about each scan that has no answer yet, by the clock of the loop."""
-        return [since for _, _, since in self._waiting.values()]
+        return [it.since for it in self._waiting.values()]
+
+    @property
+    def waiting(self) -> int:
+        """How many scans have no answer yet."""
+        return len(self._waiting)
+
+    def join(self, series: str = "") -> int:
+        """A scanner comes, with its own series. Returns the number from which it goes on."""
+        if self._asked > LAST // 2:
+            self._begin_series(0, new_series())
+        self.series = self.series or series or new_series()
+        return self._asked
 
     def begin(self, number: int) -> None:
-        """The next scan has this number. The lane waits for no answer to an earlier one."""
-        for reply, timer, _ in self._waiting.values():
-            timer.cancel()
-            reply.cancel()
+        """The next scan has this number. The lane waits for no answer to an earlier one.
+
+        :raises ValueError: the number is too large.
+        """
+        _check(number)
+        self.lost += max(0, number - self._asked) if self.next is not None else 0
+        self._begin_series(number, new_series() if number < self._asked else self.series)
+
+    def _begin_series(self, number: int, series: str) -> None:
+        for asked in self._waiting.values():
+            if asked.timer:
+                asked.timer.cancel()
+            asked.reply.cancel()
         self._waiting.clear()
         self.next = self._asked = number
-        self._tell(f"{number} next\n")
+        self.series = series
+        self._make_room()
+        self._tell(number, "next")
 
-    def scan(self, number: int, text: bytes, unread: str = "") -> None:
-        """Asks the hub for a text of the scanner. With ``unread`` the scan has no text, and this is why.
+    def scan(self, number: int, text: bytes, at: Optional[float] = None, unread: str = "") -> None:
+        """Asks the hub for a text of the scanner, which it has read at this time, since 1970. With ``unread`` the scan has no
+        text, and this is why.
 
-        :raises ValueError: the number is not the next one.
+        :raises ValueError: the number is not the next one, or is too large.
         """
         if number != self._asked or self.next is None:
             raise ValueError(f"scan {number} is not the next one of lane {self.name}")
+        _check(number)
         self._asked += 1
+        self.scans += 1
+        now = time.time()
+        unread = unread or _why_old(0.0 if at is None else now - at)
         loop = asyncio.get_running_loop()
-        reply = self._lane.ask(text)
-        self._waiting[number] = reply, loop.call_later(SECONDS, reply.cancel), loop.time()
-        reply.add_done_callback(functools.partial(self._answered, number, unread))
+        asked = _Asked(self._lane.ask(b"" if unread else text), loop.time(), now if at is None else at, unread)
+        asked.timer = loop.call_later(SECONDS, asked.reply.cancel)
+        self._waiting[number] = asked
+        asked.reply.add_done_callback(functools.partial(self._answered, number, asked))
 
-    def watch(self, tell: Tell) -> None:
+    async def room(self, turn: int) -> None:
+        """Waits until fewer scans than this are under way."""
+        while len(self._waiting) >= turn:
+            self._room = asyncio.get_running_loop().create_future()
+            await self._room
+
+    def _make_room(self) -> None:
+        if self._room and not self._room.done():
+            self._room.set_result(None)
+
+    def watch(self, till: Listener) -> None:
         """Sends each scan to a till from now on; first the number of the next one, if there was a scanner."""
-        self.watchers.add(tell)
-        if self.next is not None:
-            tell(f"{self.next} next\n")
+        self.watchers.append(till)
+        if self.next is not None or till.form > 1:
+            till.tell(self._line(self.next, "next", None, till.form))
 
-    def _answered(self, number: int, unread: str, reply: asyncio.Future[Reply]) -> None:
+    def leave(self, till: Listener) -> None:
+        """Sends a till nothing more."""
+        self.watchers = [it for it in self.watchers if it is not till]
+
+    def beat(self) -> None:
+        """Tells everybody in form 2 that the gateway is there."""
+        for it in [*self.watchers, *([self.scanner] if self.scanner else [])]:
+            if it.form > 1:
+                it.tell(self._line(self.next, "next", None, it.form))
+
+    def _answered(self, number: int, asked: _Asked, reply: "asyncio.Future[Reply]") -> None:
         """Sends an answer to the tills, unless the lane no longer waits for it. Answers come in the order of the scans."""
-        if number not in self._waiting or self._waiting[number][0] is not reply:
+        if self._waiting.get(number) is not asked:
             return
-        _, timer, since = self._waiting.pop(number)
-        timer.cancel()
+        if asked.timer:
+            asked.timer.cancel()
         answer = None
         if reply.cancelled():
             said = f"unread: no answer in {SECONDS:g} seconds"
         elif reply.exception():
             return  # The hub has ended, and with it each connection.
-        elif unread:
-            said = f"unread: {unread}"
+        elif asked.unread:
+            said = f"unread: {asked.unread}"
         else:
             answer = reply.result().answer
             said = text_of(answer, self._elements)
+        del self._waiting[number]
         self.next = number + 1
-        line = f"{number} {said}\n"
+        self.unread += answer is None
         if self.scanner:
-            self.scanner(line)
-        self._tell(line)
-        self.seen(answer, asyncio.get_running_loop().time() - since)
+            self.scanner.tell(self._line(number, said, asked.time, self.scanner.form))
+        self._tell(number, said, asked.time)
+        self._make_room()
+        self.seen(answer, asyncio.get_running_loop().time() - asked.since)
 
-    def _tell(self, line: str) -> None:
-        for tell in list(self.watchers):
-            tell(line)
+    def _tell(self, number: int, said: str, at: Optional[float] = None) -> None:
+        for form in {it.form for it in self.watchers}:
+            line = self._line(number, said, at, form)
+            for it in list(self.watchers):
+                if it.form == form:
+                    it.tell(line)
+
+    def _line(self, number: Optional[int], said: str, at: Optional[float], form: int) -> str:
+        """A line in a form; ``at`` is when it was scanned, or None for a line about now."""
+        if form == 1:
+            return f"{number} {said}\n"
+        series = f" {self.series or '-'}" if at is None else ""
+        return f"{'-' if number is None else number} {time.time() if at is None else at:.3f} {said}{series}\n"
+
+
+def _check(number: int) -> None:
+    if number > LAST:
+        raise ValueError(f"a scan's number is at most {LAST}")
+
+
+def _why_old(age: float) -> str:
+    """Why a scan of this age, in seconds, is not looked up."""
+    if age > SECONDS:
+        return f"it was scanned {age:.1f} seconds before it came"
+    return f"its scanner's clock is {-age:.1f} seconds ahead" if age < -SECONDS else ""
 
 
 class Scans:
@@ -136,3 +260,14 @@ class Scans:
             self.lanes[name] = ScanLane(name, self._hub.lane(0), self._elements)
             self.lanes[name].seen = self.seen
         return self.lanes[name]
+
+    def turn(self) -> int:
+        """How many scans of a lane may be under way now, so that the others have their turn."""
+        return max(LEAST_TURN, TURN // max(1, sum(bool(lane.waiting) for lane in self.lanes.values())))
+
+    async def beat(self) -> None:
+        """Says each 5 seconds that the gateway is there, for ever."""
+        while True:
+            await asyncio.sleep(BEAT)
+            for lane in list(self.lanes.values()):
+                lane.beat()

@@ -11,7 +11,7 @@ from urllib.parse import parse_qs, unquote, urlsplit
 
 from ._door import Full
 from ._gateway import Closed, Gateway
-from ._scans import ScanLane
+from ._scans import Listener, ScanLane
 from .commands import WrongWords
 
 try:
@@ -30,7 +30,7 @@ _OF_THIS_MACHINE = re.compile(r"https?://(localhost|127\.0\.0\.1|\[::1\])(:\d+)?
 
 async def serve(gateway: Gateway, port: int, words: argparse.Namespace) -> Any:
     """Serves ``ws://127.0.0.1:PORT/LANE`` to pages of this machine, and to those of the origins in ``words``; a page that has a token
-    adds ``?token=TOKEN``.
+    adds ``?token=TOKEN``. With ``?form=2`` the lines have their time.
 
     The browser sends the origin of the page, so no page of somebody else watches what a till sells.
 
@@ -51,7 +51,7 @@ async def serve(gateway: Gateway, port: int, words: argparse.Namespace) -> Any:
             return
         gateway.pages.add(client)
         try:
-            await client.watch(lane)
+            await client.watch(lane, 2 if parse_qs(url.query).get("form") == ["2"] else 1)
         finally:
             gateway.pages.discard(client)
 
@@ -118,8 +118,8 @@ class _Page:
         self._why = self._why or why
         self._gone.cancel()
 
-    async def watch(self, lane: ScanLane) -> None:
-        """Sends the page the lines of its lane, until it goes or reads no more."""
+    async def watch(self, lane: ScanLane, form: int) -> None:
+        """Sends the page the lines of its lane in a form, until it goes or reads no more."""
         lines: asyncio.Queue[str] = asyncio.Queue(UNREAD)
 
         def told(line: str) -> None:
@@ -132,12 +132,13 @@ class _Page:
             while True:
                 await self._page.send((await lines.get()).rstrip("\n"))
 
-        lane.watch(told)
+        listener = Listener(told, form)
+        lane.watch(listener)
         sending = asyncio.ensure_future(send())
         try:
             await asyncio.wait([self._gone, sending], return_when=asyncio.FIRST_COMPLETED)
         finally:
-            lane.watchers.discard(told)
+            lane.leave(listener)
             for task in (self._gone, sending):
                 task.cancel()
             await asyncio.gather(self._gone, sending, return_exceptions=True)

@@ -225,13 +225,13 @@ def test_a_text_is_sent_once(tmp_path):
             for number in range(3):
                 end, _ = listening.accept()
                 with end, end.makefile("rb") as lines:
-                    assert lines.readline() == b"scan till-1\n"
-                    end.sendall(b"0 next\n")
+                    series = re.fullmatch(rb"scan till-1 2 ([0-9a-f]{8})\n", lines.readline())[1]
+                    end.sendall(b"0 %.3f next %s\n" % (time.time(), series))
                     # Within the two seconds that the text before would have had.
-                    assert lines.readline() == b"%d\n" % number
+                    assert re.fullmatch(rb"%d \d+\.\d{3}\n" % number, lines.readline())
                     assert number == 0 or scanner.line().startswith(f"{number - 1} unread: ")
                     scanner.send(EAN8 + b"\r")
-                    assert lines.readline() == b"%d %s\n" % (number, EAN8)
+                    assert re.fullmatch(rb"%d \d+\.\d{3} %s\n" % (number, re.escape(EAN8)), lines.readline())
 
 
 @pytest.mark.parametrize("stalled", ["the gateway", "the hub"])

@@ -38,7 +38,7 @@ from .. import _health, _service
 from .._door import Door, Places
 from .._gateway import Gateway
 from .._health import Health, Metrics
-from .._log import Log, writer
+from .._log import Log, take_libraries, writer
 from .._rights import all_rights, new_token
 from .._service import notify
 from .._tls import Tls, expiry
@@ -174,6 +174,7 @@ def _taken(path: Optional[str]) -> Iterator[None]:
 async def _run(hub: Hub, words: argparse.Namespace) -> str:
     """Serves until it is told to stop, or the hub ends. Returns how the hub ended, if it did."""
     loop, metrics, log = asyncio.get_running_loop(), Metrics(), Log(words.log, words.json)
+    take_libraries(log)
     async with hub:
         ended = asyncio.ensure_future(hub.ended())
         for number in (signal.SIGTERM, signal.SIGINT):
@@ -184,7 +185,7 @@ async def _run(hub: Hub, words: argparse.Namespace) -> str:
         _tell_of_certificate(words.tls, log)
         if words.config:
             _load_again_when_told(gateway, words)
-        helpers = [asyncio.ensure_future(it) for it in (gateway.sweep(), health.keep(), _service.keep_alive(lambda: hub.lane(0).read("")))]
+        helpers = [asyncio.ensure_future(it) for it in (gateway.sweep(), gateway.scans.beat(), health.keep(), _service.keep_alive(lambda: hub.lane(0).read("")))]
         notify("READY=1")
         await asyncio.wait([ended])
         notify("STOPPING=1")

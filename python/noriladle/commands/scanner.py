@@ -19,13 +19,13 @@ import stat
 import termios
 import time
 import tty
-from typing import List, Optional
+from typing import List, Optional, Tuple
 
 from .. import Ais, Refusal, _service, read_scan
 from .._keys import EVENT, FOREIGN, LOST, Keyboard, events_of, grab, make_keyboard
-from .._link import Link
+from .._link import Link, now
 from .._log import writer
-from .._scans import is_name
+from .._scans import SECONDS, is_name
 from .._service import notify
 from . import REFUSED, RIGHT, WrongWords, add_ais, add_year, tell
 
@@ -33,12 +33,15 @@ CUT = 1_024
 """A longer text is cut to this many bytes: no symbol has as many, and the hub refuses it anyway."""
 ENDLESS = 2.0
 """A text that has not ended this many seconds after its last byte has no end."""
+WAKES = 0.5
+"""At least once in so many seconds the program looks whether the device has something to read."""
 PATIENCE = 3.0
 """How many seconds at most remain, after the scanner is unplugged, to report to the till what was lost."""
 
 _INPUT = 13  # The major number of event devices.
 _GTIN = re.compile(r"\S+ (?:\(01\)|01=)([0-9]{14})")
 _NO_END = "no CR, LF, Tab or Enter came behind the text: set the scanner to send one"
+_SLEPT = "the program of the scanner slept while the text came"
 _LOST = "keys were lost: the machine was too busy"
 _FOREIGN = "it types as a keyboard of another country: set the scanner to the United States, or to Alt and numbers"
 
@@ -114,16 +117,18 @@ class Texts:
         self.rest = b""
         self.since = 0.0
         """When the last byte of the rest came."""
+        self._is_old = False
 
-    def take(self, piece: bytes) -> List[bytes]:
-        """The texts that have ended with one more piece."""
+    def take(self, piece: bytes, is_old: bool = False) -> List[Tuple[bytes, bool]]:
+        """The texts that have ended with one more piece, and whether each is old: a part of it is from an old piece."""
         *ended, rest = re.split(b"[\r\n\t]", self.rest + piece)
-        self.rest, self.since = rest[:CUT], time.monotonic()
-        return [text[:CUT] for text in ended if text]
+        old = [is_old or self._is_old] + [is_old] * len(ended)
+        self.rest, self.since, self._is_old = rest[:CUT], now(), bool(rest) and old[len(ended)]
+        return [(text[:CUT], its) for text, its in zip(ended, old) if text]
 
     def is_endless(self) -> bool:
         """Whether the rest has waited too long for its end. Then it is dropped."""
-        if not self.rest or time.monotonic() < self.since + ENDLESS:
+        if not self.rest or now() < self.since + ENDLESS:
             return False
         self.rest = b""
         return True
@@ -137,6 +142,8 @@ class _Scanner:
         self._texts = Texts()
         self._number = 0
         self._is_plugged, self._ended = True, 0.0
+        self._quiet = now()
+        """When the device had nothing that was not read: what comes next came later."""
         self._link = Link(words.gateway, lane, self._said, self._note) if words.gateway else None
 
     def run(self) -> int:
@@ -148,7 +155,7 @@ class _Scanner:
             signal.signal(number, lambda *_: self._end())
         alive = _service.watchdog()
         notify("READY=1")
-        while self._is_plugged or (self._link and self._link.is_waiting and time.monotonic() < self._ended + PATIENCE):
+        while self._is_plugged or (self._link and self._link.is_waiting and now() < self._ended + PATIENCE):
             self._wait(woken, (alive or 30) / 3)
             if alive:
                 notify("WATCHDOG=1")
@@ -158,7 +165,7 @@ class _Scanner:
         return RIGHT
 
     def _end(self) -> None:
-        self._is_plugged, self._ended = False, time.monotonic()
+        self._is_plugged, self._ended = False, now()
 
     def _wait(self, woken: int, most: float) -> None:
         """Waits for the device, the gateway, a signal or a time, and handles it."""
@@ -170,7 +177,11 @@ class _Scanner:
             ends.register(self._device, select.POLLIN)
         if link and link.socket:
             ends.register(link.socket, select.POLLIN | (select.POLLOUT if link.wants_to_write else 0))
-        for end, events in ends.poll(max(0.0, self._until(most) - time.monotonic()) * 1000):
+        begin = now()
+        found = ends.poll(max(0.0, self._until(most) - begin) * 1000)
+        if self._device not in dict(found):
+            self._quiet = begin
+        for end, events in found:
             if end == self._device:
                 self._read()
             elif link and link.socket and end == link.socket.fileno():
@@ -182,7 +193,7 @@ class _Scanner:
             self._unread(_NO_END)
 
     def _until(self, most: float) -> float:
-        steps = [time.monotonic() + most]
+        steps = [now() + min(most, WAKES)]
         if self._link:
             steps.append(self._link.next_step())
         if self._texts.rest:
@@ -190,27 +201,34 @@ class _Scanner:
         return min(steps)
 
     def _read(self) -> None:
-        """Reads from the device; None if it is unplugged."""
+        """Reads from the device. What may have waited too long, because the program or the machine slept, is old."""
+        size, begin = 100 * EVENT.size, now()
         try:
-            some = os.read(self._device, 100 * EVENT.size)
+            some = os.read(self._device, size)
         except BlockingIOError:
             return
         except OSError:
             some = b""
+        at, age = time.time(), now() - self._quiet
+        if len(some) < size:
+            self._quiet = begin
         if not some:
             self._end()
             writer(2)(f"{self._words.device}: unplugged")
             return
-        for text in self._texts.take(self._keyboard.typed(some) if self._keyboard else some):
-            self._scan(text)
+        for text, is_old in self._texts.take(self._keyboard.typed(some) if self._keyboard else some, age > SECONDS):
+            if is_old:
+                self._unread(_SLEPT)
+            else:
+                self._scan(text, at)
 
-    def _scan(self, text: bytes) -> None:
+    def _scan(self, text: bytes, at: float) -> None:
         if self._keyboard and LOST.encode() in text:
             self._unread(_LOST)
         elif self._keyboard and FOREIGN.encode() in text:
             self._unread(_FOREIGN)
         elif self._link:
-            self._link.scan(text)
+            self._link.scan(text, at)
         else:
             self._said(self._number, _checked(text, self._words.year, self._words.ais))
             self._number += 1

@@ -1,0 +1,302 @@
+"""The limits of a gateway: who takes too much, or comes from where nobody was let in, holds up no scanner and no till. Needs python3-websockets."""
+import asyncio
+import itertools
+import os
+import socket
+import statistics
+import subprocess
+import sys
+import threading
+import time
+
+import pytest
+import websockets
+
+from gateway_and_scanners import NORILADLE, ROW, Client, Gateway, Serial
+from program_and_rows import READ
+from test_gateway import page
+from test_rights import Authority, open_folder, rights  # noqa: F401 (open_folder is a fixture)
+
+LIMIT = 200
+EAN = b"]E09501101530003"
+HANDSHAKE = (b"GET /till-1 HTTP/1.1\r\nHost: localhost\r\nUpgrade: websocket\r\nConnection: Upgrade\r\nSec-WebSocket-Key: dGhlIHNhbXBsZSBub25jZQ==\r\n"
+             b"Sec-WebSocket-Version: 13\r\n\r\n")
+
+
+def descriptors(gateway):
+    return len(os.listdir(f"/proc/{gateway.process.pid}/fd"))
+
+
+def scans(gateway, lane):
+    """A scanner and a till of a lane work, and each line comes within 100 ms."""
+    with gateway.watch(lane) as till, gateway.unix_client() as scanner:
+        scanner.send(f"scan {lane}\n".encode())
+        first = int(scanner.line().split()[0])
+        scanner.send(b"%d\n" % first)
+        while till.line() != f"{first} next\n":
+            pass
+        for number in range(first, first + 20):
+            begin = time.monotonic()
+            scanner.send(b"%d %s\n" % (number, EAN))
+            assert till.line() == scanner.line() == f"{number} {READ}\n"
+            assert time.monotonic() - begin < 0.1
+
+
+@pytest.mark.parametrize("which", ["web", "port"])
+def test_strangers_over_tcp(tmp_path, which):
+    """1,100 of them, silent or not, take few descriptors; the UNIX socket goes on, and they leave no line in the log."""
+    with Gateway(tmp_path, "--web", "0", "--metrics", "0") as gateway:
+        strangers = []
+        for number in range(1_100):
+            its = socket.create_connection(("127.0.0.1", gateway.ports[which]), 5)
+            if which == "web" and number % 2:
+                its.send(HANDSHAKE)
+            strangers.append(its)
+        scans(gateway, "till-1")
+        assert descriptors(gateway) < 200
+        assert page(gateway, "/readyz") == (200, "ready\n")
+        for its in strangers:
+            its.close()
+
+
+def test_pages_are_counted(tmp_path):
+    """Those above the limit are refused in the handshake."""
+    async def test(port):
+        pages = [await websockets.connect(f"ws://127.0.0.1:{port}/till-1") for _ in range(5)]
+        with pytest.raises(websockets.InvalidStatusCode, match="503"):
+            await websockets.connect(f"ws://127.0.0.1:{port}/till-1")
+        await pages[0].close()
+        pages[0] = await websockets.connect(f"ws://127.0.0.1:{port}/till-1")
+        for its in pages:
+            await its.close()
+
+    with Gateway(tmp_path, "--web", "0", "--each", "5", port=False) as gateway:
+        asyncio.run(asyncio.wait_for(test(gateway.ports["web"]), 30))
+
+
+HOLD = """
+import socket, sys, time
+held = []
+for _ in range(int(sys.argv[2])):
+    its = socket.socket(socket.AF_UNIX)
+    its.connect(sys.argv[1])
+    its.sendall(sys.argv[3].encode())
+    held.append(its)
+print("held", flush=True)
+sys.stdin.read()
+"""
+
+
+def hold(gateway, count, said, user=None):
+    """Another program, which holds this many connections until its standard input ends."""
+    its = subprocess.Popen([sys.executable, "-c", HOLD, gateway.unix, str(count), said], stdin=subprocess.PIPE, stdout=subprocess.PIPE, text=True, user=user)
+    assert its.stdout.readline() == "held\n"
+    return its
+
+
+@pytest.mark.skipif(os.geteuid() != 0, reason="only root asks as other users")
+def test_a_user_who_takes_all(open_folder):  # noqa: F811
+    """One user's limit is no other's."""
+    with Gateway(open_folder, "--each", "20", port=False) as gateway:
+        os.chmod(gateway.unix, 0o666)
+        with hold(gateway, 60, "", user=4711):
+            scans(gateway, "till-1")
+
+
+def test_scanners_have_a_place_when_there_is_no_other(tmp_path):
+    """Though one user has taken every place; whatever else comes is told why not."""
+    with Gateway(tmp_path, "--connections", "8", "--each", "8", port=False) as gateway:
+        time.sleep(0.5)
+        tills = [gateway.watch("till-1") for _ in range(8)]
+        with gateway.unix_client() as late:
+            assert late.ask(b"watch till-1\n") == "closed: there are 8 connections\n"
+        scanners = []
+        for number in range(12):
+            scanners.append(gateway.unix_client())
+            assert scanners[-1].ask(b"scan lane-%d\n" % number) == "0 next\n"
+        # A silent one keeps such a place for five seconds.
+        silent = [gateway.unix_client() for _ in range(8)]
+        with gateway.unix_client() as late:
+            assert late.line() == "closed: there are 8 connections\n"
+        assert silent[0].line() == "closed: nothing came or was taken for 5 seconds\n"
+        time.sleep(0.2)
+        with gateway.unix_client() as late:
+            assert late.ask(b"scan lane-99\n") == "0 next\n"
+        for client in (*tills, *scanners, *silent):
+            client.__exit__()
+
+
+def test_tcp_leaves_places_to_the_unix_socket(tmp_path):
+    with Gateway(tmp_path, "--connections", "20", "--each", "20") as gateway:
+        time.sleep(0.5)
+        far = [gateway.connect() for _ in range(15)]
+        with gateway.connect() as late:
+            assert late.line() == "closed: there are 15 connections that are not of the UNIX socket\n"
+        near = [gateway.unix_client() for _ in range(5)]
+        assert near[-1].ask(ROW) == f"0 {READ}\n"
+        for client in (*far, *near):
+            client.__exit__()
+
+
+def test_a_user_or_an_address_has_its_limit(tmp_path):
+    with Gateway(tmp_path, "--each", "4", "--metrics", "0") as gateway:
+        time.sleep(0.5)
+        far = [gateway.connect() for _ in range(4)]
+        with gateway.connect() as late:
+            assert late.line() == "closed: address 127.0.0.1 has 4 connections\n"
+        assert gateway.numbers()["noriladle_places_refused_total"] == "1"
+        far[0].__exit__()
+        time.sleep(0.2)
+        with gateway.connect() as next_one:
+            assert next_one.ask(ROW) == f"0 {READ}\n"
+        for client in far[1:]:
+            client.__exit__()
+
+
+@pytest.mark.parametrize("host, more, wanted", [
+    ("0.0.0.0", [], "it needs TLS (--cert and --key) and a table of rights, or --ca"),
+    ("::", [], "it needs TLS (--cert and --key) and a table of rights, or --ca"),
+    ("0.0.0.0", ["rights"], "it needs TLS (--cert and --key)"),
+    ("0.0.0.0", ["tls"], "it needs a table of rights, or --ca"),
+    ("0.0.0.0", ["tls", "rights"], ""), ("0.0.0.0", ["tls", "ca"], ""), ("0.0.0.0", ["anyone"], ""), ("127.0.0.1", [], ""), ("127.0.0.2", [], ""),
+    ("localhost", [], ""),
+])
+def test_a_port_for_other_machines(tmp_path, host, more, wanted):
+    """Without rights or without TLS it is refused, unless the operator says so."""
+    words = ["--host", host, "--port", "0"]
+    if "tls" in more:
+        key, file = Authority(tmp_path, "shop").issue("gateway")
+        words += ["--key", str(key), "--cert", str(file)]
+    words += ["--ca", str(tmp_path / "shop.pem")] if "ca" in more else []
+    words += rights(tmp_path, '"user 0" = "rows"') if "rights" in more else []
+    words += ["--anyone"] if "anyone" in more else []
+    process = subprocess.Popen([*NORILADLE, "gateway", *words], stderr=subprocess.PIPE, text=True)
+    try:
+        line = process.stderr.readline()
+        if wanted:
+            assert (line, process.wait(10)) == (f"noriladle: other machines reach {host}: {wanted}; with --anyone it goes without\n", 2)
+        else:
+            assert line.startswith("port ")
+    finally:
+        process.terminate()
+        process.communicate(timeout=20)
+
+
+def test_the_lock_follows_no_link(tmp_path):
+    """A file that a link at the lock's place points to keeps what it has; so has a lock that was left, and a pipe there stops nobody."""
+    target, lock = tmp_path / "target", tmp_path / "hub.lock"
+    target.write_text("of somebody else")
+    lock.symlink_to(target)
+    ran = subprocess.run([*NORILADLE, "gateway", "--unix", str(tmp_path / "hub")], capture_output=True, text=True, timeout=20)
+    assert (ran.returncode, ran.stderr) == (2, f"noriladle: {lock} is a symbolic link: remove it, or name another socket\n")
+    assert target.read_text() == "of somebody else"
+    lock.unlink()
+    lock.write_text("left")
+    with Gateway(tmp_path, port=False) as gateway, gateway.unix_client() as client:
+        assert client.ask(ROW) == f"0 {READ}\n"
+    assert lock.read_text() == "left"
+
+
+def test_a_file_in_the_socket_s_place_is_kept(tmp_path):
+    (tmp_path / "hub").write_text("of somebody else")
+    ran = subprocess.run([*NORILADLE, "gateway", "--unix", str(tmp_path / "hub")], capture_output=True, text=True, timeout=20)
+    assert (ran.returncode, ran.stderr) == (1, f"noriladle: {tmp_path}/hub: Address already in use\n")
+    assert (tmp_path / "hub").read_text() == "of somebody else"
+
+
+@pytest.mark.parametrize("sent", [
+    b"POST / HTTP/1.1\r\nHost: x\r\nContent-Type: text/plain\r\n\r\nscan till-1\n0\n0 ]E09501101530003\n",
+    b"GET /x HTTP/1.1\r\nHost: x\r\n\r\n", b"OPTIONS * HTTP/1.0\r\n\r\n",
+])
+def test_a_page_of_another_site_takes_no_lane(tmp_path, sent):
+    """A browser sends such a request to any port."""
+    with Gateway(tmp_path, "--metrics", "0") as gateway, gateway.watch("till-1") as till:
+        with gateway.connect() as client:
+            client.send(sent)
+            assert client.line() == "closed: this port is not for web pages\n"
+            assert gateway.numbers()["noriladle_lanes_free"] == "16"
+        till.socket.settimeout(0.3)
+        with pytest.raises(OSError):
+            till.socket.recv(1)
+
+
+@pytest.mark.parametrize("sent, wanted", [
+    (b"999999999999999999\n", "closed: a scan's number is at most 999999999999999\n"), (b"1000000000000000\n", "closed: a scan's number is at most 999999999999999\n"),
+    (b"9999999999999999999999\n", "closed: a scan is a number, a blank and a text\n"), (b"-1\n", "closed: a scan is a number, a blank and a text\n"),
+])
+def test_a_number_that_is_too_large(tmp_path, sent, wanted):
+    """The lane goes on with the next scanner."""
+    with Gateway(tmp_path, port=False) as gateway:
+        with gateway.unix_client() as client:
+            assert client.ask(b"scan till-1\n") == "0 next\n"
+            assert client.ask(sent) == wanted
+        scans(gateway, "till-1")
+
+
+def test_the_last_numbers(tmp_path):
+    """A lane whose numbers end begins anew, with a scanner's program too."""
+    with Gateway(tmp_path, port=False) as gateway:
+        with gateway.unix_client() as client:
+            assert client.ask(b"scan till-1\n") == "0 next\n"
+            client.send(b"999999999999999\n999999999999999 %s\n" % EAN)
+            assert client.line() == f"999999999999999 {READ}\n"
+            client.send(b"1000000000000000 %s\n" % EAN)
+            assert client.line() == "closed: a scan's number is at most 999999999999999\n"
+        with Serial("--gateway", gateway.unix, "--lane", "till-1") as scanner:
+            for number in range(3):
+                scanner.send(EAN + b"\r", size=100)
+                assert scanner.line() == f"{number} {READ}\n"
+        scans(gateway, "till-1")
+
+
+@pytest.mark.parametrize("count", [1, 4])
+def test_a_scanner_that_floods(tmp_path, count):
+    """Each lane has its turn: another lane waits at most 100 ms, and has no scan without an answer."""
+    with Gateway(tmp_path, port=False) as gateway, gateway.watch("good") as till, gateway.unix_client() as scanner:
+        scanner.send(b"scan good\n0\n")
+        assert scanner.line() == "0 next\n" == till.line()
+        numbers, times = itertools.count(), {}
+
+        def measure(when):
+            times[when] = []
+            for number in itertools.islice(numbers, 200):
+                begin = time.perf_counter()
+                scanner.send(b"%d %s\n" % (number, EAN))
+                assert till.line() == scanner.line() == f"{number} {READ}\n"
+                times[when].append((time.perf_counter() - begin) * 1e3)
+                time.sleep(0.01)
+
+        measure("alone")
+        with subprocess.Popen([sys.executable, __file__, gateway.unix, str(count)], stdout=subprocess.PIPE) as floods:
+            assert floods.stdout.readline() == b"begun\n"
+            measure("beside")
+            floods.kill()
+        print(f"\n{count} floods: " + "; ".join(f"{when} median {statistics.median(its):.1f} ms, longest {max(its):.1f} ms" for when, its in times.items()))
+        # On a busy machine a lane that is alone waits too.
+        assert max(times["beside"]) < 100 + 2 * max(times["alone"])
+
+
+def flood(path, count):
+    """Scanners that send as fast as they can, and read what they get, until this program is ended."""
+    def drain(its):
+        while its.recv(65_536):
+            pass
+
+    def send(its):
+        for begin in itertools.count(0, 2_000):
+            its.sendall(b"".join(b"%d %s\n" % (it, EAN) for it in range(begin, begin + 2_000)))
+
+    for number in range(count):
+        its = socket.socket(socket.AF_UNIX)
+        its.connect(path)
+        its.sendall(b"scan bad-%d\n" % number)
+        its.recv(100)
+        its.sendall(b"0\n")
+        threading.Thread(target=drain, args=(its,)).start()
+        threading.Thread(target=send, args=(its,)).start()
+    time.sleep(0.5)
+    print("begun", flush=True)
+
+
+if __name__ == "__main__":
+    flood(sys.argv[1], int(sys.argv[2]))
