@@ -1,4 +1,5 @@
 """Devices that speak MQTT, joined to `live` by mosquitto's own clients, as docs/HUB.md says. Needs mosquitto, mosquitto-clients."""
+import contextlib
 import os
 import select
 import signal
@@ -8,7 +9,7 @@ import time
 
 import pytest
 
-from program_and_rows import EAN13, PROGRAM
+from program_and_rows import EAN13, PROGRAM, ROOT
 
 LIMIT = 60
 
@@ -24,32 +25,54 @@ def port():
         broker.terminate()
 
 
-def publish(port, topic, text):
-    while subprocess.run(["mosquitto_pub", "-p", port, "-q", "1", "-t", topic, "-m", text], stderr=subprocess.DEVNULL).returncode:
+def publish(port, topic, text, *more):
+    while subprocess.run(["mosquitto_pub", "-p", port, "-q", "1", "-t", topic, "-m", text, *more], stderr=subprocess.DEVNULL).returncode:
         time.sleep(0.05)
+
+
+def commands(port):
+    """The two command lines of docs/HUB.md, for this broker: what answers, and what counts retained messages."""
+    lines = [line.strip() for line in (ROOT / "docs/HUB.md").read_text().splitlines() if line.startswith("    mosquitto_sub ")]
+    answers, counts = [line.replace("./gs1_hub", PROGRAM).replace("mosquitto_sub", f"mosquitto_sub -p {port}") for line in lines]
+    return answers.replace("mosquitto_pub", f"mosquitto_pub -p {port}").replace("--workers 2", "--workers 1"), counts
+
+
+@contextlib.contextmanager
+def joined(port):
+    """The clients and the hub, and the answers that are published."""
+    words = ["mosquitto_sub", "-p", port, "-q", "1", "-t", "shop/answers"]
+    with subprocess.Popen(["bash", "-c", commands(port)[0]], start_new_session=True) as line, \
+            subprocess.Popen(words, stdout=subprocess.PIPE, text=True) as answers:
+        try:
+            # Until all have subscribed; a record that is none, whose answers are passed over.
+            while not select.select([answers.stdout], [], [], 0.1)[0]:
+                publish(port, "shop/rows", "begin")
+            yield filter("- - refused 39 Csv\n".__ne__, answers.stdout)
+        finally:
+            # The clients of the line are in its group.
+            os.killpg(line.pid, signal.SIGTERM)
+            answers.terminate()
 
 
 def test_rows_that_are_published(port):
     """Each is answered before the next is published."""
     publish(port, "shop/begun", "")
-    line = (f"mosquitto_sub -p {port} -q 1 -t shop/rows | {PROGRAM} live --lanes 3 --workers 1 --year 2026 --elements | "
-            f"mosquitto_pub -p {port} -q 1 -t shop/answers -l")
-    words = ["mosquitto_sub", "-p", port, "-q", "1", "-t", "shop/answers"]
-    with subprocess.Popen(["bash", "-c", line], start_new_session=True) as joined, \
-            subprocess.Popen(words, stdout=subprocess.PIPE, text=True) as answers:
-        try:
-            follow(port, answers.stdout)
-        finally:
-            # The clients of the line are in its group.
-            os.killpg(joined.pid, signal.SIGTERM)
-            answers.terminate()
+    with joined(port) as answers:
+        follow(port, answers)
+
+
+def test_rows_that_are_retained(port):
+    """The broker sends them again at each start; they are passed over then, and a command counts them."""
+    publish(port, "shop/rows", f"2,{EAN13}", "-r")
+    for number in range(2):
+        with joined(port) as answers:
+            publish(port, "shop/rows", "0,100")
+            assert next(answers) == "0 0 refused 19 Blank\n", number
+    assert subprocess.run(commands(port)[1], shell=True, capture_output=True, text=True).stdout == "1\n"
 
 
 def follow(port, answers):
     """Publishes records one by one, and reads what is answered to each."""
-    # Until all have subscribed; a record that is none, whose answers are passed over.
-    while not select.select([answers], [], [], 0.1)[0]:
-        publish(port, "shop/rows", "begin")
     for record, wanted in [
         (f"2,{EAN13}", "2 0 ]E0 01=09501101530003"),
         ("0,100", "0 0 refused 19 Blank"),
@@ -58,4 +81,4 @@ def follow(port, answers):
         ("7,100", "- - refused 41 BadLane"),
     ]:
         publish(port, "shop/rows", record)
-        assert next(line for line in answers if line != "- - refused 39 Csv\n") == f"{wanted}\n"
+        assert next(answers) == f"{wanted}\n"
