@@ -12,6 +12,7 @@ from typing import AsyncIterator, Awaitable, Callable, Dict, List, Optional, Pro
 from . import Answer, Refusal
 from ._door import Place, Places
 from ._health import Metrics
+from ._journal import Scan
 from ._log import Log
 from ._rights import Rights, all_rights, name_of_token, unix_names
 from ._scans import Listener, ScanLane, Scans, is_series, text_of
@@ -129,14 +130,26 @@ class Rows:
         try:
             async for reply in self._lane.read_all(lines, ROWS_AHEAD):
                 number = "-" if reply.number is None else next(self._numbers)
-                answers.append(f"{number} {text_of(reply.answer, gateway.elements)}\n")
+                answers.append(f"{number} {text_of(reply.answer, gateway.elements)}")
                 gateway.seen(reply.answer, time.monotonic() - begin)
         finally:
+            why = await self._keep(lines, answers)
             del gateway.began[self]
-            connection.writer.write("".join(answers).encode())
+            if not why:
+                connection.writer.write("".join(f"{answer}\n" for answer in answers).encode())
+        if why:
+            raise Closed(why)
         connection.waits()
         await connection.writer.drain()
         connection.waits()
+
+    async def _keep(self, lines: List[bytes], answers: List[str]) -> str:
+        """Writes rows and answers into the journal, if there is one. Returns why they are not there, or nothing."""
+        journal = self._gateway.scans.journal
+        if not journal:
+            return ""
+        now, rows = time.time(), zip(lines, (answer.partition(" ") for answer in answers))
+        return await journal.put_all([Scan(now, "-", "-", number, line.rstrip(b"\r"), said) for line, (number, _, said) in rows])
 
     def end(self) -> None:
         self._gateway.give_lane(self._lane, self._connection.is_unix)
@@ -303,6 +316,8 @@ class Gateway:
 
     async def trip(self) -> str:
         """Has a scan of its own answered by the hub. Returns why it was not, or nothing."""
+        if self.scans.journal and self.scans.journal.stops:
+            return f"the journal cannot be written: {self.scans.journal.why}"
         try:
             answer = str((await self.hub.lane(0).read(OWN)).answer)
         except HubEnded as fault:

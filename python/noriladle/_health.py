@@ -3,14 +3,14 @@ from __future__ import annotations
 
 import asyncio
 import contextlib
+import importlib.util
 import re
 from bisect import bisect_left
 from itertools import accumulate
-from typing import Any, Awaitable, Callable, Dict, Iterator, List, Mapping, Optional, Tuple, Union
+from typing import Any, Awaitable, Callable, Dict, Iterator, List, Mapping, Tuple, Union
 
 from . import __version__
 from ._log import lines_dropped
-from .commands import WrongWords
 
 PATIENCE = 1.0
 """A service is ready if its own round trip takes at most this many seconds."""
@@ -18,6 +18,7 @@ BOUNDS = (0.0005, 0.001, 0.0025, 0.005, 0.01, 0.025, 0.05, 0.1, 0.25, 0.5, 1.0, 
 """The bounds of histograms, in seconds."""
 MOST = 16
 """How many clients of the port are served at a time."""
+MISSING = "/metrics needs prometheus_client: apt-get install python3-prometheus-client"
 _HEAD = 8192
 _HOST = re.compile(rb"(localhost|127\.0\.0\.1|\[::1\])(:\d{1,5})?", re.IGNORECASE)
 
@@ -136,16 +137,13 @@ class Health:
             await asyncio.sleep(PATIENCE)
 
 
-async def serve(port: int, health: Health, metrics: Metrics) -> asyncio.AbstractServer:
+async def serve(port: int, health: Health, metrics: Metrics, fault: Callable[[str], None] = lambda said: None) -> asyncio.AbstractServer:
     """Serves ``/healthz``, ``/readyz`` (503 with the reason while it is not) and ``/metrics`` on a port of 127.0.0.1.
 
-    :raises WrongWords: prometheus_client is not installed.
     :raises OSError: the port is taken.
     """
-    try:
-        metrics.text()
-    except ImportError as fault:
-        raise WrongWords("--metrics needs prometheus_client: apt-get install python3-prometheus-client") from fault
+    if not importlib.util.find_spec("prometheus_client"):
+        fault(MISSING)
     clients = 0
 
     async def connected(reader: asyncio.StreamReader, writer: asyncio.StreamWriter) -> None:
@@ -184,5 +182,8 @@ async def _page(path: bytes, health: Health, metrics: Metrics) -> Tuple[str, byt
         why = await health.look()
         return ("503 Service Unavailable", f"{why}\n".encode()) if why else ("200 OK", b"ready\n")
     if path == b"/metrics":
-        return "200 OK", metrics.text()
+        try:
+            return "200 OK", metrics.text()
+        except ImportError:
+            return "501 Not Implemented", f"{MISSING}\n".encode()
     return "404 Not Found", b"/healthz, /readyz or /metrics\n"

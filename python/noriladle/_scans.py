@@ -15,6 +15,7 @@ from dataclasses import dataclass
 from typing import Callable, Dict, List, Optional, Union
 
 from . import Answer, Refusal
+from ._journal import Journal, Scan
 from .live import Hub, Lane, Reply
 
 SECONDS = 2.0
@@ -67,13 +68,16 @@ class Listener:
 
 @dataclass
 class _Asked:
-    """A scan without an answer yet: when the lane asked, by the clock of the loop, and when it was scanned, since 1970."""
+    """A scan without an answer yet: its text, when the lane asked, by the clock of the loop, and when it was scanned, since 1970."""
 
+    text: bytes
     reply: "asyncio.Future[Reply]"
     since: float
     time: float
     unread: str
     timer: Optional[asyncio.TimerHandle] = None
+    is_kept: bool = False
+    """Whether the journal has it, or will."""
 
 
 class ScanLane:
@@ -97,6 +101,7 @@ class ScanLane:
         self.scans = self.unread = self.lost = self.refused = 0
         """How many scans came, had no answer, never came, and how many scanners found the lane taken."""
         self.seen: Seen = lambda answer, seconds: None
+        self.journal: Optional[Journal] = None
         self._lane, self._elements = lane, elements
         self._asked = 0
         self._waiting: Dict[int, _Asked] = {}
@@ -129,11 +134,12 @@ class ScanLane:
         self._begin_series(number, new_series() if number < self._asked else self.series)
 
     def _begin_series(self, number: int, series: str) -> None:
-        for asked in self._waiting.values():
+        waiting, self._waiting = self._waiting, {}
+        for its_number, asked in waiting.items():
             if asked.timer:
                 asked.timer.cancel()
             asked.reply.cancel()
-        self._waiting.clear()
+            self._keep(its_number, asked, "unread: its scanner waits no longer")
         self.next = self._asked = number
         self.series = series
         self._make_room()
@@ -153,8 +159,8 @@ class ScanLane:
         now = time.time()
         unread = unread or _why_old(0.0 if at is None else now - at)
         loop = asyncio.get_running_loop()
-        asked = _Asked(self._lane.ask(b"" if unread else text), loop.time(), now if at is None else at, unread)
-        asked.timer = loop.call_later(SECONDS, asked.reply.cancel)
+        asked = _Asked(text, self._lane.ask(b"" if unread else text), loop.time(), now if at is None else at, unread)
+        asked.timer = loop.call_later(SECONDS, self._expire, number, asked)
         self._waiting[number] = asked
         asked.reply.add_done_callback(functools.partial(self._answered, number, asked))
 
@@ -184,22 +190,40 @@ class ScanLane:
             if it.form > 1:
                 it.tell(self._line(self.next, "next", None, it.form))
 
+    def _expire(self, number: int, asked: _Asked) -> None:
+        """A scan has waited too long, for the hub or for the journal."""
+        if self._waiting.get(number) is asked:
+            asked.reply.cancel()
+            said = f"unread: no answer in {SECONDS:g} seconds"
+            self._keep(number, asked, said)
+            self._send(number, asked, said, None)
+
     def _answered(self, number: int, asked: _Asked, reply: "asyncio.Future[Reply]") -> None:
-        """Sends an answer to the tills, unless the lane no longer waits for it. Answers come in the order of the scans."""
-        if self._waiting.get(number) is not asked:
-            return
+        """The hub has answered. If there is a journal, it gets the answer first. Answers come in the order of the scans."""
+        if self._waiting.get(number) is not asked or reply.cancelled() or reply.exception():
+            return  # Nobody waits any more, or the hub has ended, and with it each connection.
+        answer = None if asked.unread else reply.result().answer
+        said = f"unread: {asked.unread}" if answer is None else text_of(answer, self._elements)
+        if self.journal:
+            self._keep(number, asked, said, functools.partial(self._kept, number, asked, said, answer))
+        else:
+            self._send(number, asked, said, answer)
+
+    def _keep(self, number: int, asked: _Asked, said: str, kept: Optional[Callable[[str], None]] = None) -> None:
+        """Writes a scan into the journal, if there is one, and once."""
+        if self.journal and not asked.is_kept:
+            asked.is_kept = True
+            self.journal.put(Scan(asked.time, self.name, self.series, str(number), asked.text, said), kept)
+
+    def _kept(self, number: int, asked: _Asked, said: str, answer: Union[Answer, Refusal, None], why: str) -> None:
+        """The journal has a scan and its answer, or says why not. Nobody may wait for it any more."""
+        if self._waiting.get(number) is asked:
+            self._send(number, asked, *((f"unread: {why}", None) if why else (said, answer)))
+
+    def _send(self, number: int, asked: _Asked, said: str, answer: Union[Answer, Refusal, None]) -> None:
+        """Sends a scan's answer to the scanner and the tills."""
         if asked.timer:
             asked.timer.cancel()
-        answer = None
-        if reply.cancelled():
-            said = f"unread: no answer in {SECONDS:g} seconds"
-        elif reply.exception():
-            return  # The hub has ended, and with it each connection.
-        elif asked.unread:
-            said = f"unread: {asked.unread}"
-        else:
-            answer = reply.result().answer
-            said = text_of(answer, self._elements)
         del self._waiting[number]
         self.next = number + 1
         self.unread += answer is None
@@ -242,6 +266,7 @@ class Scans:
     def __init__(self, hub: Hub, elements: bool, most: int = 256) -> None:
         self.lanes: Dict[str, ScanLane] = {}
         self.seen: Seen = lambda answer, seconds: None
+        self.journal: Optional[Journal] = None
         self._hub, self._elements, self._most = hub, elements, most
 
     def lane(self, name: str) -> ScanLane:
@@ -258,7 +283,7 @@ class Scans:
             if len(self.lanes) >= self._most:
                 raise ValueError(f"there are {self._most} lanes")
             self.lanes[name] = ScanLane(name, self._hub.lane(0), self._elements)
-            self.lanes[name].seen = self.seen
+            self.lanes[name].seen, self.lanes[name].journal = self.seen, self.journal
         return self.lanes[name]
 
     def turn(self) -> int:

@@ -6,12 +6,13 @@ import signal
 import socket
 import subprocess
 import time
+import urllib.error
 import urllib.request
 
 import pytest
 
 import noriladle
-from gateway_and_scanners import ROW, Client, Gateway
+from gateway_and_scanners import NORILADLE, ROW, Client, Gateway
 from program_and_rows import READ
 from test_gateway import page
 
@@ -131,6 +132,27 @@ def test_a_port_that_is_taken_stops_no_gateway(tmp_path, gateway):
             assert client.ask(ROW) == f"0 {READ}\n"
         with urllib.request.urlopen(f"http://127.0.0.1:{gateway.ports['metrics']}/healthz", timeout=5) as told:
             assert told.status == 200
+    finally:
+        process.terminate()
+        process.communicate(timeout=20)
+
+
+def test_without_prometheus_client(tmp_path, monkeypatch):
+    """The gateway says what it lacks, and is ready all the same."""
+    (tmp_path / "modules").mkdir()
+    (tmp_path / "modules/sitecustomize.py").write_text(
+        "import importlib.util, sys\nreally = importlib.util.find_spec\nsys.modules['prometheus_client'] = None\n"
+        "importlib.util.find_spec = lambda name, *more: None if name == 'prometheus_client' else really(name, *more)\n")
+    monkeypatch.setenv("PYTHONPATH", f"{tmp_path}/modules:{os.environ['PYTHONPATH']}")
+    process = subprocess.Popen([*NORILADLE, "gateway", "--unix", str(tmp_path / "hub"), "--metrics", "0"], stderr=subprocess.PIPE, text=True)
+    try:
+        said = [process.stderr.readline(), process.stderr.readline()]
+        port = next(line.split()[1] for line in said if line.startswith("metrics "))
+        assert any("/metrics needs prometheus_client: apt-get install python3-prometheus-client" in line for line in said)
+        with urllib.request.urlopen(f"http://127.0.0.1:{port}/readyz", timeout=5) as told:
+            assert told.status == 200
+        with pytest.raises(urllib.error.HTTPError, match="501"):
+            urllib.request.urlopen(f"http://127.0.0.1:{port}/metrics", timeout=5)
     finally:
         process.terminate()
         process.communicate(timeout=20)

@@ -38,6 +38,7 @@ from .. import _health, _service
 from .._door import Door, Places
 from .._gateway import Gateway
 from .._health import Health, Metrics
+from .._journal import Journal
 from .._log import Log, take_libraries, writer
 from .._rights import all_rights, new_token
 from .._service import notify
@@ -76,6 +77,11 @@ def add_arguments(parser: argparse.ArgumentParser) -> None:
     parser.add_argument("--workers", type=_service.count(1, 16), default=2, metavar="N", help="Workers of the hub, 1 to 16 [default: 2]")
     parser.add_argument("--idle", type=_service.seconds, default=60.0, metavar="SECONDS",
                         help="Close a connection that sends no whole line, or takes nothing, for this long [default: 60]")
+    parser.add_argument("--journal", metavar="DIR", help="Write each scan and its answer into files of this folder, before the answer is sent")
+    parser.add_argument("--journal-most", type=_service.count(1, 1_000_000), default=1024, metavar="MB",
+                        help="Size of all these files; the oldest are removed [default: 1024]")
+    parser.add_argument("--journal-full", choices=("stop", "go-on"), default="stop", metavar="WHAT",
+                        help="While they cannot be written: stop answering, or go on and say so [default: stop]")
     parser.add_argument("--elements", action="store_true", help="Write elements as gs1_hub live --elements does")
     parser.add_argument("--token", action=_NewToken, help="Print a new token and its line for the table of rights, and exit")
     parser.set_defaults(rights=all_rights())  # A table of the option file.
@@ -180,6 +186,8 @@ async def _run(hub: Hub, words: argparse.Namespace) -> str:
         for number in (signal.SIGTERM, signal.SIGINT):
             loop.add_signal_handler(number, ended.cancel)
         gateway = Gateway(hub, words.idle, words.elements, _kept(words), Places(words.connections, words.each), log, metrics, words.rights)
+        if words.journal:
+            gateway.scans.journal = Journal(words.journal, words.journal_most << 20, words.journal_full == "go-on", log, metrics)
         health = Health(lambda: _trip(gateway, ended), metrics)
         servers = await _listen(gateway, words, health)
         _tell_of_certificate(words.tls, log)
@@ -197,6 +205,8 @@ async def _run(hub: Hub, words: argparse.Namespace) -> str:
         await gateway.close(why or "the gateway stops")
         for helper in helpers:
             helper.cancel()
+        if gateway.scans.journal:
+            gateway.scans.journal.close()
         if words.unix:
             with contextlib.suppress(FileNotFoundError):
                 os.unlink(words.unix)
@@ -240,7 +250,7 @@ async def _listen(gateway: Gateway, words: argparse.Namespace, health: Health) -
     if words.metrics is None:
         return servers
     try:
-        return [*servers, _named("metrics", await _health.serve(words.metrics, health, gateway.metrics))]
+        return [*servers, _named("metrics", await _health.serve(words.metrics, health, gateway.metrics, gateway.log.fault))]
     except OSError as fault:
         gateway.log.fault(f"--metrics {words.metrics}: {fault.strerror}; the gateway goes on without")
         return servers

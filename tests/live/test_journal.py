@@ -1,0 +1,374 @@
+"""The journal of scans: each answer that a till saw is in it, once, whatever happens to the gateway and to its disk. Needs root for a full disk."""
+import asyncio
+import os
+import random
+import re
+import resource
+import signal
+import socket
+import subprocess
+import threading
+import time
+
+import pytest
+
+import noriladle._journal as journal_module
+from gateway_and_scanners import NORILADLE, ROW, Client, Gateway
+from noriladle._health import Metrics
+from noriladle._journal import Check, Journal, Scan
+from noriladle._log import Log
+from program_and_rows import READ, SEED
+from test_gateway import page
+
+LIMIT = 500
+EAN = b"]E09501101530003"
+SCANS = int(os.environ.get("JOURNAL_SCANS", "60000"))
+
+
+def check(folder, *words):
+    """What `noriladle journal` prints, its counts and faults, and its status."""
+    ran = subprocess.run([*NORILADLE, "journal", str(folder), *words], capture_output=True, text=True)
+    return ran.stdout, ran.stderr, ran.returncode
+
+
+def scan_all(client, lane, texts):
+    """Scans texts in form 1, and returns the lines."""
+    client.send(f"scan {lane}\n".encode())
+    first = int(client.line().split()[0])
+    client.send(b"%d\n" % first + b"".join(b"%d %s\n" % (number, text) for number, text in enumerate(texts, first)))
+    return [client.line() for _ in texts]
+
+
+def test_what_is_in_it(tmp_path):
+    """Each scan with its time, lane, number, text and answer, also those without an answer, and rows of programs."""
+    folder = tmp_path / "journal"
+    with Gateway(tmp_path, "--journal", str(folder)) as gateway, gateway.unix_client() as client, gateway.unix_client() as other:
+        begin = time.time()
+        odd = b"]C110A\x1d\xff\\\tB"
+        assert scan_all(client, "till-1", [EAN, b"]E09501101530004", odd])[0] == f"0 {READ}\n"
+        other.send(b"scan till-2\n5\n5\tunplugged\n")
+        assert [other.line(), other.line()] == ["0 next\n", "5 unread: unplugged\n"]
+        with gateway.connect() as rows:
+            assert rows.ask(ROW) == f"0 {READ}\n" and rows.ask(b"9501101530003\n") == "- - (01)09501101530003\n"
+        said, counts, status = check(folder)
+        lines = [line.split("\t") for line in said.splitlines()]
+        assert [line[1:] for line in lines] == [
+            ["till-1", "0", EAN.decode(), READ], ["till-1", "1", "]E09501101530004", "refused 3 CheckDigit"],
+            ["till-1", "2", r"]C110A\x1d\xff\x5c\x09B", "refused 5 UnknownAi 4"],
+            ["till-2", "5", "", "unread: unplugged"], ["-", "0", ROW.decode().strip(), READ], ["-", "-", "9501101530003", "- (01)09501101530003"],
+        ]
+        assert all(abs(time.mktime(time.strptime(line[0][:19], "%Y-%m-%dT%H:%M:%S")) - time.timezone - begin) < 5 for line in lines)
+        assert (counts, status) == ("6 records in 1 files, 0 faults\n", 0)
+    assert check(folder, "--lane", "till-2")[0].count("\n") == 1
+    assert check(folder, "--check") == ("", "6 records in 1 files, 0 faults\n", 0)
+    assert '"lane": "till-2", "number": "5", "text": "", "answer": "unread: unplugged"}' in check(folder, "--json")[0]
+    assert oct(folder.stat().st_mode & 0o777) == "0o750"
+
+
+def recorded(folder):
+    """The answers of a journal by lane, series and number, which must be whole."""
+    found = Check(folder)
+    answers = {}
+    for record in found:
+        if record.lane != "-":
+            assert (record.lane, record.series, record.scan) not in answers
+            answers[record.lane, record.series, record.scan] = record.text, record.said
+    assert not found.faults, found.faults[:3]
+    return answers
+
+
+class Shop:
+    """A scanner that scans as fast as it is answered, window by window, whatever happens to its gateway; and what its till saw."""
+
+    def __init__(self, path, lane):
+        self.path, self.lane = path, lane
+        self.saw = {}
+        """What the till saw, by series and number."""
+        self.unread = self.sent = self.number = 0
+        self.ends = False
+        self.threads = [threading.Thread(target=it, daemon=True) for it in (self._watch, self._scan)]
+        for it in self.threads:
+            it.start()
+
+    def _watch(self):
+        while not self.ends:
+            try:
+                with Client(self.path, socket.AF_UNIX) as till:
+                    till.socket.settimeout(9)
+                    till.send(f"watch {self.lane} 2\n".encode())
+                    series = None
+                    for line in till.lines:
+                        if self.ends:
+                            return
+                        number, at, said = line.decode().rstrip("\n").split(" ", 2) if line.endswith(b"\n") else ("", "", "")
+                        if said.startswith("next "):
+                            series = said[5:]
+                        elif number.isdecimal():
+                            assert (series, number) not in self.saw, "a till saw a scan twice"
+                            self.saw[series, number] = said, time.time() - float(at)
+            except (OSError, ValueError):
+                time.sleep(0.05)
+
+    def _scan(self):
+        series = "%08x" % random.Random(SEED).getrandbits(32)
+        while not self.ends:
+            try:
+                with Client(self.path, socket.AF_UNIX) as scanner:
+                    scanner.socket.settimeout(9)
+                    scanner.send(f"scan {self.lane} 2 {series}\n".encode())
+                    its, _, said = scanner.line().split(" ", 2)
+                    self.number, series = max(self.number, int(its)) if said[5:-1] == series else int(its), said[5:-1]
+                    scanner.send(b"%d %.3f\n" % (self.number, time.time()))
+                    while not self.ends and self._scan_window(scanner):
+                        pass
+            except (OSError, ValueError):
+                time.sleep(0.05)
+
+    def _scan_window(self, scanner):
+        """Whether 100 scans were answered or unread."""
+        first, self.number = self.number, self.number + 100
+        self.sent += 100
+        scanner.send(b"".join(b"%d %.3f ]C121%d\n" % (it, time.time(), it) for it in range(first, self.number)))
+        for it in range(first, self.number):
+            line = scanner.line()
+            while " next " in line:
+                line = scanner.line()
+            if not line.startswith(f"{it} "):
+                return False
+            self.unread += " unread: " in line
+        return True
+
+    def end(self):
+        self.ends = True
+        for it in self.threads:
+            it.join(20)
+            assert not it.is_alive()
+
+
+@pytest.mark.limit(450)
+def test_a_gateway_that_is_killed_stopped_and_short_of_disk(tmp_path):
+    """Whatever a till saw as an answer is in the journal, with this answer, and once; no answer was old; and the check finds nothing."""
+    folder, chance, times = tmp_path / "journal", random.Random(SEED), 12
+    gateway = Gateway(tmp_path, "--journal", str(folder), port=False)
+    shop = Shop(gateway.unix, "till-1")
+    begin, kinds = time.monotonic(), ["kill", "stop", "short"] * (times // 3)
+    chance.shuffle(kinds)
+    for number, kind in enumerate(kinds):
+        while shop.sent < (number + 1) * SCANS // (times + 1):
+            assert time.monotonic() < begin + 420
+            time.sleep(0.02)
+        if kind == "stop":
+            gateway.process.send_signal(signal.SIGSTOP)
+            time.sleep(3)
+            gateway.process.send_signal(signal.SIGCONT)
+        elif kind == "short":
+            resource.prlimit(gateway.process.pid, resource.RLIMIT_FSIZE, (chance.randrange(100, 20_000), resource.RLIM_INFINITY))
+            time.sleep(2)
+            resource.prlimit(gateway.process.pid, resource.RLIMIT_FSIZE, (resource.RLIM_INFINITY, resource.RLIM_INFINITY))
+        else:
+            gateway.process.kill()
+            gateway.process.communicate()
+            gateway.process = Gateway(tmp_path, "--journal", str(folder), port=False).process
+    while shop.sent < SCANS:
+        assert time.monotonic() < begin + 440
+        time.sleep(0.02)
+    shop.end()
+    gateway.process.terminate()
+    said = gateway.process.communicate(timeout=20)[1]
+    answers = recorded(folder)
+    told = {key: said for key, (said, _) in shop.saw.items() if not said.startswith("unread: ")}
+    for (series, number), said_to_till in told.items():
+        assert answers["till-1", series, number] == (f"]C121{number}", said_to_till)
+    oldest = max(age for said, age in shop.saw.values() if not said.startswith("unread: "))
+    print(f"\nseed {SEED}: {shop.sent} scans in {time.monotonic() - begin:.0f} s, {times} faults: a till saw {len(told)} answers, each in the journal, "
+          f"once; the oldest was {oldest:.1f} s old; {len(answers)} records; {shop.unread} unread")
+    assert len(told) > SCANS // 2 and oldest < 5 and "Traceback" not in said
+
+
+def fill(folder):
+    """Leaves no room on the disk of a folder."""
+    with open(folder / "filler", "ab", buffering=0) as file:
+        try:
+            while True:
+                file.write(bytes(4096))
+        except OSError:
+            pass
+
+
+@pytest.fixture
+def small_disk(tmp_path):
+    """A disk of 2 MB."""
+    place = tmp_path / "disk"
+    place.mkdir()
+    if os.geteuid() or subprocess.run(["mount", "-t", "tmpfs", "-o", "size=2m", "tmpfs", place]).returncode:
+        pytest.skip("only root has a disk of its own")
+    yield place
+    subprocess.run(["umount", "-l", place], check=True)
+
+
+@pytest.mark.parametrize("what", ["stop", "go-on"])
+def test_a_full_disk(tmp_path, small_disk, what):
+    """By the operator's choice scans are unread, or answered without a record; both say so, and go on when there is room."""
+    gateway = Gateway(tmp_path, "--journal", str(small_disk / "journal"), "--journal-full", what, "--metrics", "0", port=False)
+    with gateway.unix_client() as client, gateway.unix_client() as rows:
+        assert scan_all(client, "till-1", [EAN])[0] == f"0 {READ}\n"
+        fill(small_disk)
+        filler = b"]C191" + b"A" * 90
+        answers = set()
+        for number in range(1, 60):  # The page of the file may have some room.
+            answers.add(client.ask(b"%d %s\n" % (number, filler)).split(" ", 1)[1])
+        assert rows.ask(ROW) == (f"0 {READ}\n" if what == "go-on" else "closed: the journal cannot be written: No space left on device\n")
+        right = "]C1 (91)" + "A" * 90 + "\n"
+        assert answers == ({right} if what == "go-on" else {right, "unread: the journal cannot be written: No space left on device\n"})
+        ready = (200, "ready\n") if what == "go-on" else (503, "the journal cannot be written: No space left on device\n")
+        assert page(gateway, "/readyz") == ready and gateway.numbers()["noriladle_journal_failing"] == "1"
+        missed = int(gateway.numbers()["noriladle_journal_missed_total"])
+        assert missed > 0
+        (small_disk / "filler").unlink()
+        gateway.waits_for(journal_failing=0)
+        assert client.ask(b"60 " + EAN + b"\n") == f"60 {READ}\n" and page(gateway, "/readyz") == (200, "ready\n")
+    gateway.process.terminate()
+    said = gateway.process.communicate(timeout=20)[1]
+    assert said.count("\n") == 2 and "No space left on device; " in said and "the journal is written again" in said
+    found = Check(small_disk / "journal")
+    records = list(found)
+    assert not found.faults and any(record.said == f"gap: {missed} scans have no record" for record in records)
+    assert (records[0].scan, records[-1].scan) == ("0", "60")
+
+
+def test_files_follow_each_other_and_have_a_limit(tmp_path):
+    """The oldest are removed, and what is left is whole."""
+    folder = tmp_path / "journal"
+    with Gateway(tmp_path, "--journal", str(folder), "--journal-most", "1", "--metrics", "0", port=False) as gateway, gateway.unix_client() as client:
+        text = b"]C191" + b"A" * 90
+        client.send(b"scan till-1\n0\n")
+        assert client.line() == "0 next\n"
+        for begin in range(0, 10_000, 50):
+            client.send(b"".join(b"%d %s\n" % (number, text) for number in range(begin, begin + 50)))
+            for number in range(begin, begin + 50):
+                assert client.line().startswith(f"{number} ]C1 ")
+            assert sum(it.stat().st_size for it in folder.iterdir()) <= 1 << 20
+        size = float(gateway.numbers()["noriladle_journal_size_bytes"])
+    files = sorted(folder.glob("scans-*.tsv"))
+    assert 2 <= len(files) <= 4 and size == sum(it.stat().st_size for it in files)
+    records = list(Check(folder))
+    assert records[0].number > 1 and records[-1].number == 10_000
+    assert check(folder, "--check")[2] == 0
+
+
+@pytest.mark.parametrize("what, wanted", [
+    ("change an answer", r"scans-\d+.tsv:3: this record was changed, or one before it is missing"),
+    ("take a record out", r"scans-\d+.tsv:3: this record was changed, or one before it is missing"),
+    ("swap two", r"scans-\d+.tsv:3: this record was changed, or one before it is missing"),
+    ("take a file out", r"scans-\d+.tsv:1: it does not go on where scans-\d+.tsv ends: a file was taken away or changed"),
+    ("cut the end of a file", r"scans-\d+.tsv:1: it does not go on where scans-\d+.tsv ends: a file was taken away or changed"),
+    ("change the beginning", r"scans-\d+.tsv:1: this is no beginning of a file of the journal"),
+])
+def test_a_journal_that_was_changed(tmp_path, what, wanted):
+    folder = tmp_path / "journal"
+    for begin in range(3):
+        with Gateway(tmp_path, "--journal", str(folder), port=False) as gateway, gateway.unix_client() as client:
+            assert len(scan_all(client, "till-1", [EAN] * 4)) == 4
+    assert check(folder, "--check") == ("", "12 records in 3 files, 0 faults\n", 0)
+    first, second, third = sorted(folder.glob("scans-*.tsv"))
+    lines = second.read_text().splitlines(keepends=True)
+    if what == "change an answer":
+        lines[2] = lines[2].replace("(01)09501101530003", "(01)09501101530010")
+    elif what == "take a record out":
+        del lines[2]
+    elif what == "swap two":
+        lines[2], lines[3] = lines[3], lines[2]
+    elif what == "cut the end of a file":
+        del lines[-1]
+    elif what == "change the beginning":
+        lines[0] = lines[0].replace("journal 1", "journal 2")
+    second.write_text("".join(lines))
+    if what == "take a file out":
+        second.unlink()
+    _, said, status = check(folder, "--check")
+    assert status == 1 and re.search(wanted, said), said
+    # A gateway goes on behind it.
+    with Gateway(tmp_path, "--journal", str(folder), port=False) as gateway, gateway.unix_client() as client:
+        assert scan_all(client, "till-1", [EAN]) == [f"0 {READ}\n"]
+
+
+def test_a_record_that_is_cut(tmp_path):
+    """The gateway died while it wrote: no answer was sent, which is no fault; the next gateway goes on before it."""
+    folder = tmp_path / "journal"
+    for cut in range(1, 40, 6):
+        with Gateway(tmp_path, "--journal", str(folder), port=False) as gateway, gateway.unix_client() as client:
+            assert scan_all(client, "till-1", [EAN, EAN])[1] == f"1 {READ}\n"
+        last = sorted(folder.glob("scans-*.tsv"))[-1]
+        os.truncate(last, last.stat().st_size - cut)
+        _, said, status = check(folder, "--check")
+        assert status == 0 and f"{last}: the gateway died while it wrote record " in said
+
+
+def test_a_second_gateway_on_one_journal(tmp_path):
+    folder = tmp_path / "journal"
+    with Gateway(tmp_path, "--journal", str(folder), port=False):
+        ran = subprocess.run([*NORILADLE, "gateway", "--unix", str(tmp_path / "other"), "--journal", str(folder)], capture_output=True, text=True, timeout=20)
+    assert (ran.returncode, ran.stderr) == (2, f"noriladle: another gateway has the journal {folder}; give each its own\n")
+
+
+@pytest.mark.parametrize("words, wanted", [
+    (["--journal", "/dev/null"], "noriladle: --journal /dev/null: it is no folder\n"),
+    (["--journal", "no/such/folder"], "noriladle: --journal no/such/folder: No such file or directory\n"),
+])
+def test_no_folder(tmp_path, words, wanted):
+    ran = subprocess.run([*NORILADLE, "gateway", "--unix", str(tmp_path / "hub"), *words], capture_output=True, text=True, timeout=20)
+    assert (ran.returncode, ran.stderr) == (2, wanted)
+
+
+def test_no_journal(tmp_path):
+    assert check(tmp_path) == ("", f"noriladle: {tmp_path}: there is no journal\n", 2)
+    assert check(tmp_path / "none") == ("", f"noriladle: {tmp_path}/none: No such file or directory\n", 2)
+
+
+class Disk:
+    """Counts writes to the disk, which take a while, and can refuse them."""
+
+    def __init__(self, monkeypatch):
+        self.count, self.refuses = 0, False
+        self.really = os.fdatasync
+        monkeypatch.setattr(journal_module.os, "fdatasync", self.sync)
+
+    def sync(self, descriptor):
+        time.sleep(0.1)
+        self.count += 1
+        if self.refuses:
+            raise OSError(5, "Input/output error")
+        self.really(descriptor)
+
+
+def put(journal, numbers):
+    """Puts scans into a journal, and returns what is called, in its order, and when."""
+    async def wait():
+        done = []
+        for number in numbers:
+            journal.put(Scan(time.time(), "till-1", "0" * 8, str(number), EAN, READ), lambda why, it=number: done.append((it, why, time.monotonic())))
+        while len(done) < len(numbers):
+            await asyncio.sleep(0.005)
+        return done
+    return wait()
+
+
+def test_an_answer_waits_for_the_disk_and_shares_its_write(tmp_path, monkeypatch):
+    """500 scans that wait together need a write or two, and none is called before its own; after a failed one the file begins anew."""
+    async def test():
+        disk = Disk(monkeypatch)
+        journal = Journal(str(tmp_path / "journal"), 1 << 30, False, Log(), Metrics())
+        begin = time.monotonic()
+        done = await put(journal, range(500))
+        assert [number for number, _, _ in done] == list(range(500)) and not any(why for _, why, _ in done)
+        assert 2 <= disk.count <= 4 and done[0][2] - begin > 0.2
+        disk.refuses = True
+        assert (await put(journal, [500]))[0][1] == "the journal cannot be written: Input/output error"
+        disk.refuses = False
+        assert (await put(journal, [501]))[0][1] == ""
+        journal.close()
+        found = Check(tmp_path / "journal")
+        assert [record.scan for record in found if record.lane != "-"] == [*map(str, range(500)), "501"]
+        assert not found.faults and len(found.files) == 2
+
+    asyncio.run(asyncio.wait_for(test(), 30))
