@@ -292,6 +292,7 @@ class Gateway:
         of.count_of("noriladle_unread_total", "Scans without an answer in their time.", by_lane(lambda it: it.unread), "lane")
         of.count_of("noriladle_lost_total", "Scans that a scanner could not send.", by_lane(lambda it: it.lost), "lane")
         of.count_of("noriladle_scanners_refused_total", "Scanners that found another one on their lane.", by_lane(lambda it: it.refused), "lane")
+        of.gauge("noriladle_scanners", "Scanners.", lambda: sum(bool(it.scanner) for it in self.scans.lanes.values()))
         of.gauge("noriladle_tills", "Tills.", lambda: sum(len(it.watchers) for it in self.scans.lanes.values()))
         of.gauge("noriladle_unanswered", "Scans without an answer yet; of the lane - turns of rows.",
                  lambda: {name: len(since) for name, since in self._since().items()}, "lane")

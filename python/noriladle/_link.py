@@ -20,10 +20,16 @@ def now() -> float:
     return time.clock_gettime(time.CLOCK_BOOTTIME)
 
 
+_OLD = "a lane's name has"
+"""What a gateway of version 1.1 says to a first line of form 2."""
+
+
 class _Scan(NamedTuple):
     number: int
     until: float
-    line: bytes
+    at: float
+    text: bytes
+    """A blank and the text, or a tab and why there is none."""
 
 
 class Link:
@@ -39,7 +45,8 @@ class Link:
         self._path, self._lane, self._said, self._note = path, lane, said, note
         self._number = 0
         self._series = new_series()
-        self._is_open = False
+        self._form = 2
+        self._is_open, self._is_fresh = False, True
         self._lost = 0
         """How many scans were given up since the gateway got the number of the next one."""
         self._kept: Deque[_Scan] = deque()
@@ -65,14 +72,14 @@ class Link:
 
     def scan(self, text: bytes, at: float) -> None:
         """Sends a text that was read at this time, in seconds since 1970, or keeps it for up to two seconds."""
-        self._take(b"%.3f %b" % (at, text))
+        self._take(at, b" " + text)
 
     def unread(self, why: str) -> None:
         """Reports a scan without a text to the till."""
-        self._take(b"%.3f\t%b" % (time.time(), why.encode()))
+        self._take(time.time(), b"\t" + why.encode())
 
-    def _take(self, line: bytes) -> None:
-        scan = _Scan(self._number, now() + SECONDS, line)
+    def _take(self, at: float, text: bytes) -> None:
+        scan = _Scan(self._number, now() + SECONDS, at, text)
         self._number += 1
         if self._is_open:
             self._send(scan)
@@ -138,7 +145,7 @@ class Link:
             return
         found.setblocking(False)
         self.socket, self._in, self._out, self._between = found, b"", b"", _BETWEEN
-        self._write(f"scan {self._lane} 2 {self._series}\n".encode())
+        self._write(f"scan {self._lane}{f' 2 {self._series}' if self._form == 2 else ''}\n".encode())
 
     def _tell(self, why: str) -> None:
         """Remembers why there is no gateway, and logs it once."""
@@ -148,15 +155,18 @@ class Link:
 
     def _answered(self, line: str) -> None:
         if line.startswith("closed: "):
+            if self._form == 2 and line.startswith(f"closed: {_OLD}"):
+                self._form = 1
+                return
             self._between = _REFUSED
             self._tell(line[len("closed: "):])
             return
-        word, _, rest = line.partition(" ")
-        said = rest.partition(" ")[2]
+        word, _, said = line.partition(" ")
+        said = said.partition(" ")[2] if self._form == 2 else said
         number = int(word) if word.isdecimal() else -1
-        if said.startswith("next "):
+        if said.startswith("next"):
             if not self._is_open:
-                self._begin(number, said[len("next "):])
+                self._begin(number, said[len("next "):] or ("" if self._is_fresh else self._series))
         elif self._sent and number == self._sent[0].number and self._sent[0].until > now():
             self._sent.popleft()
             self._said(number, said)
@@ -169,7 +179,7 @@ class Link:
         more = (max(number, first) if series == self._series else number + self._lost) - first
         self._kept = deque(scan._replace(number=scan.number + more) for scan in self._kept)
         self._number += more
-        self._series, self._is_open, self._why = series, True, ""
+        self._series, self._is_fresh, self._is_open, self._why = series or self._series, False, True, ""
         self._tell_next(first + more)
         kept: List[_Scan] = list(self._kept)
         self._kept.clear()
@@ -179,11 +189,14 @@ class Link:
     def _tell_next(self, number: int) -> None:
         """Sends the number of the next scan, so the till knows which were lost."""
         self._lost = 0
-        self._write(b"%d %.3f\n" % (number, time.time()))
+        self._write(self._line(number, time.time(), b""))
 
     def _send(self, scan: _Scan) -> None:
         self._sent.append(scan)
-        self._write(b"%d %b\n" % (scan.number, scan.line))
+        self._write(self._line(scan.number, scan.at, scan.text))
+
+    def _line(self, number: int, at: float, text: bytes) -> bytes:
+        return b"%d %.3f%b\n" % (number, at, text) if self._form == 2 else b"%d%b\n" % (number, text)
 
     def _write(self, line: bytes) -> None:
         self._out += line
@@ -192,7 +205,8 @@ class Link:
     def _end(self, why: str) -> None:
         """The connection has ended. Scans that were sent and have no answer are not sent again."""
         self.close()
-        self._is_open = False
+        if self._is_open:
+            self._is_open, self._form = False, 2
         self._again = now() + self._between
         self._give_up(why)
         self._tell(why)

@@ -200,8 +200,8 @@ class Serial(Scanner):
 class Till:
     """examples/till/till.py, and the lines that it prints."""
 
-    def __init__(self, socket_path, lane):
-        self.process = subprocess.Popen([sys.executable, "-u", ROOT / "examples/till/till.py", socket_path, lane], stdout=subprocess.PIPE,
+    def __init__(self, socket_path, lane, script=ROOT / "examples/till/till.py"):
+        self.process = subprocess.Popen([sys.executable, "-u", script, socket_path, lane], stdout=subprocess.PIPE,
                                         text=True)
         self.lines = []
         self._reading = threading.Thread(target=lambda: self.lines.extend(self.process.stdout))

@@ -7,6 +7,7 @@ import signal
 import subprocess
 import threading
 import time
+from pathlib import Path
 
 import pytest
 
@@ -24,13 +25,19 @@ REPOSITORY = os.environ.get("REPOSITORY", str(ROOT))
 def old(tmp_path_factory):
     """The command of the earlier version."""
     folder = tmp_path_factory.mktemp("old")
-    packed = subprocess.run(["git", "-C", REPOSITORY, "archive", OLD, "python/noriladle"], capture_output=True)
+    packed = subprocess.run(["git", "-C", REPOSITORY, "archive", OLD, "python/noriladle", "examples/till"], capture_output=True)
     if packed.returncode:
         pytest.skip("there is no history of the repository")
     subprocess.run(["tar", "-xf", "-", "-C", folder], input=packed.stdout, check=True)
     for built in (ROOT / "python/noriladle").glob("*.so"):
         shutil.copy(built, folder / "python/noriladle")
     return ["env", f"PYTHONPATH={folder / 'python'}", *NORILADLE]
+
+
+@pytest.fixture(scope="module")
+def old_till(old):
+    """The till of the earlier version, which knows form 1 alone."""
+    return Path(old[1].partition("=")[2]).parent / "examples/till/till.py"
 
 
 class Feed(threading.Thread):
@@ -94,12 +101,12 @@ def test_workers_are_upgraded_one_after_the_other(old):
 
 
 @pytest.mark.limit(90)
-def test_a_gateway_is_upgraded(old, tmp_path):
-    """And back again, with a scanner and a till of each version: tills get each scan once, or as lost, in order."""
+def test_a_gateway_is_upgraded(old, old_till, tmp_path):
+    """And back again, with a scanner of each version and tills of the earlier one: they get each scan once, or as lost, in order."""
     versions = {"old": old, "new": NORILADLE}
     gateway = Gateway(tmp_path, "--metrics", "0", command=old)
     scanners = {name: Serial("--gateway", gateway.unix, "--lane", name, command=[*command, "scanner"]) for name, command in versions.items()}
-    tills = {name: Till(gateway.unix, name) for name in versions}
+    tills = {name: Till(gateway.unix, name, script=old_till) for name in versions}
     try:
         for version in ("new", "old", "new"):
             gateway.waits_for(scanners=2, tills=2)
