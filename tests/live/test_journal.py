@@ -325,6 +325,22 @@ def test_no_journal(tmp_path):
     assert check(tmp_path / "none") == ("", f"noriladle: {tmp_path}/none: No such file or directory\n", 2)
 
 
+def test_a_scan_whose_scanner_waits_no_longer(tmp_path):
+    """It is in the journal too, as unread, and so is one whose hub does not answer; each once."""
+    folder = tmp_path / "journal"
+    with Gateway(tmp_path, "--journal", str(folder), port=False) as gateway, gateway.unix_client() as client:
+        assert client.ask(b"scan till-1\n") == "0 next\n"
+        os.kill(gateway.hub(), signal.SIGSTOP)
+        client.send(b"0\n0 " + EAN + b"\n")
+        assert client.line() == "0 unread: no answer in 2 seconds\n"
+        client.send(b"1 " + EAN + b"\n2\n")
+        time.sleep(0.2)
+        os.kill(gateway.hub(), signal.SIGCONT)
+        assert client.ask(b"2 " + EAN + b"\n") == f"2 {READ}\n"
+        assert [line.split("\t")[2:] for line in check(folder)[0].splitlines()] == [
+            ["0", EAN.decode(), "unread: no answer in 2 seconds"], ["1", EAN.decode(), "unread: its scanner waits no longer"], ["2", EAN.decode(), READ]]
+
+
 class Disk:
     """Counts writes to the disk, which take a while, and can refuse them."""
 

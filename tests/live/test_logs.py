@@ -1,6 +1,8 @@
 """Logs that are full or that nobody reads: every client is answered all the same. A full disk is /dev/full."""
 import fcntl
 import os
+import re
+import resource
 import select
 import signal
 import socket
@@ -123,3 +125,22 @@ def test_a_scanner_whose_lines_nobody_takes(tmp_path, how):
             assert scanner.process.wait(10) == 0
         os.close(end)
         os.close(unread)
+
+
+def test_what_libraries_say_is_in_the_log(tmp_path):
+    """No descriptor is left: the gateway says so in lines of its log, without a traceback, and lets clients in when there is one again."""
+    gateway = Gateway(tmp_path, "--metrics", "0")
+    pid = gateway.process.pid
+    limits = resource.prlimit(pid, resource.RLIMIT_NOFILE)
+    time.sleep(0.3)
+    resource.prlimit(pid, resource.RLIMIT_NOFILE, (len(os.listdir(f"/proc/{pid}/fd")), limits[1]))
+    waiting = [Client(("127.0.0.1", gateway.ports[name])) for name in ("metrics", "port")]
+    time.sleep(0.5)
+    resource.prlimit(pid, resource.RLIMIT_NOFILE, limits)
+    assert waiting[1].ask(ROW) == f"0 {READ}\n"
+    for client in waiting:
+        client.__exit__()
+    gateway.process.terminate()
+    lines = gateway.process.communicate(timeout=20)[1].splitlines()
+    assert any("no client can come in: Too many open files" in line for line in lines) and any("by=asyncio" in line for line in lines)
+    assert all(re.match(r"\d{4}-\d\d-\d\dT[0-9:.]+Z ", line) for line in lines), lines
