@@ -231,19 +231,25 @@ class Till:
 
 
 class Teller:
-    """Writes lines to a connection, and closes it if it does not read them."""
+    """Writes lines to a connection, those of a turn of the loop at once, and closes it if it does not read them."""
 
     def __init__(self, connection: Connection) -> None:
         self._connection = connection
+        self._lines: List[str] = []
+        self._loop = asyncio.get_running_loop()
 
     def __call__(self, line: str) -> None:
+        if not self._lines:
+            self._loop.call_soon(self._write)
+        self._lines.append(line)
+
+    def _write(self) -> None:
         writer = self._connection.writer
-        if writer.transport.is_closing():
-            return
         if writer.transport.get_write_buffer_size() > UNREAD_LINES:
             self._connection.close("what was told is not taken")
-        else:
-            writer.write(line.encode())
+        elif not writer.transport.is_closing():
+            writer.write("".join(self._lines).encode())
+        self._lines.clear()
 
 
 def _first(line: bytes) -> Tuple[str, str, int, str]:

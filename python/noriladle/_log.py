@@ -12,7 +12,7 @@ import select
 import threading
 from typing import Callable, Dict, Optional
 
-WAITING = 10_000
+WAITING = 2_000
 """How many lines may wait to be written; later ones are dropped."""
 LAST = 1.0
 """How many seconds the lines that wait at the end have to be written."""

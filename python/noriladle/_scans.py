@@ -66,18 +66,15 @@ class Listener:
     form: int = 1
 
 
-@dataclass
 class _Asked:
     """A scan without an answer yet: its text, when the lane asked, by the clock of the loop, and when it was scanned, since 1970."""
 
-    text: bytes
-    reply: "asyncio.Future[Reply]"
-    since: float
-    time: float
-    unread: str
-    timer: Optional[asyncio.TimerHandle] = None
-    is_kept: bool = False
-    """Whether the journal has it, or will."""
+    __slots__ = "text", "reply", "since", "time", "unread", "is_kept"
+
+    def __init__(self, text: bytes, reply: "asyncio.Future[Reply]", since: float, at: float, unread: str) -> None:
+        self.text, self.reply, self.since, self.time, self.unread = text, reply, since, at, unread
+        self.is_kept = False
+        """Whether the journal has it, or will."""
 
 
 class ScanLane:
@@ -106,6 +103,7 @@ class ScanLane:
         self._asked = 0
         self._waiting: Dict[int, _Asked] = {}
         self._room: Optional[asyncio.Future[None]] = None
+        self._timer: Optional[asyncio.TimerHandle] = None
 
     @property
     def under_way(self) -> List[float]:
@@ -136,8 +134,6 @@ class ScanLane:
     def _begin_series(self, number: int, series: str) -> None:
         waiting, self._waiting = self._waiting, {}
         for its_number, asked in waiting.items():
-            if asked.timer:
-                asked.timer.cancel()
             asked.reply.cancel()
             self._keep(its_number, asked, "unread: its scanner waits no longer")
         self.next = self._asked = number
@@ -157,12 +153,14 @@ class ScanLane:
         self._asked += 1
         self.scans += 1
         now = time.time()
-        unread = unread or _why_old(0.0 if at is None else now - at)
+        if at is not None and not unread:
+            unread = _why_old(now - at)
         loop = asyncio.get_running_loop()
         asked = _Asked(text, self._lane.ask(b"" if unread else text), loop.time(), now if at is None else at, unread)
-        asked.timer = loop.call_later(SECONDS, self._expire, number, asked)
         self._waiting[number] = asked
         asked.reply.add_done_callback(functools.partial(self._answered, number, asked))
+        if not self._timer:
+            self._timer = loop.call_later(SECONDS, self._expire)
 
     async def room(self, turn: int) -> None:
         """Waits until fewer scans than this are under way."""
@@ -190,9 +188,14 @@ class ScanLane:
             if it.form > 1:
                 it.tell(self._line(self.next, "next", None, it.form))
 
-    def _expire(self, number: int, asked: _Asked) -> None:
-        """A scan has waited too long, for the hub or for the journal."""
-        if self._waiting.get(number) is asked:
+    def _expire(self) -> None:
+        """Gives up the scans that have waited too long, for the hub or for the journal. The lane asked about them in their order."""
+        loop = asyncio.get_running_loop()
+        self._timer, least = None, loop.time() - SECONDS
+        for number, asked in list(self._waiting.items()):
+            if asked.since > least:
+                self._timer = loop.call_at(asked.since + SECONDS, self._expire)
+                return
             asked.reply.cancel()
             said = f"unread: no answer in {SECONDS:g} seconds"
             self._keep(number, asked, said)
@@ -222,14 +225,13 @@ class ScanLane:
 
     def _send(self, number: int, asked: _Asked, said: str, answer: Union[Answer, Refusal, None]) -> None:
         """Sends a scan's answer to the scanner and the tills."""
-        if asked.timer:
-            asked.timer.cancel()
         del self._waiting[number]
         self.next = number + 1
         self.unread += answer is None
         if self.scanner:
             self.scanner.tell(self._line(number, said, asked.time, self.scanner.form))
-        self._tell(number, said, asked.time)
+        if self.watchers:
+            self._tell(number, said, asked.time)
         self._make_room()
         self.seen(answer, asyncio.get_running_loop().time() - asked.since)
 
