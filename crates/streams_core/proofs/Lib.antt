@@ -1,3 +1,0 @@
-pub mod LaneAlwaysHolds
-pub mod StreamFacts
-pub mod TillFacts

@@ -1,4 +1,0 @@
-pub mod Laws
-pub mod Machine
-pub mod Streams
-pub mod Tills
