@@ -1,4 +1,4 @@
-"""What the services share: options from a file, log lines, messages to systemd, and health and metrics over HTTP."""
+"""What the services share: options from a file, and messages to systemd."""
 from __future__ import annotations
 
 import argparse
@@ -9,7 +9,7 @@ import os
 import re
 import socket
 import sys
-from typing import Any, Callable, Dict, Iterator, List, Optional, Sequence, Union
+from typing import Any, Callable, Dict, Optional, Sequence, Union
 
 if sys.version_info >= (3, 11):
     import tomllib
@@ -191,67 +191,3 @@ async def keep_alive(is_well: Callable[[], Any]) -> None:
         await is_well()
         notify("WATCHDOG=1")
         await asyncio.sleep(most / 3)
-
-
-class Metrics:
-    """Numbers by name and labels, for Prometheus."""
-
-    def __init__(self) -> None:
-        self._about: Dict[str, str] = {}
-        self._values: Dict[str, Dict[str, Union[float, Callable[[], float]]]] = {}
-
-    def counter(self, name: str, about: str) -> None:
-        """Declares a number that only grows."""
-        self._about[name], self._values[name] = f"# HELP {name} {about}\n# TYPE {name} counter", {}
-
-    def gauge(self, name: str, about: str, value: Callable[[], float]) -> None:
-        """Declares a number that a function gives when somebody reads it."""
-        self._about[name], self._values[name] = f"# HELP {name} {about}\n# TYPE {name} gauge", {"": value}
-
-    def add(self, name: str, labels: str = "", by: float = 1) -> None:
-        """Adds to a counter."""
-        values = self._values[name]
-        before = values.get(labels, 0)
-        values[labels] = by if callable(before) else before + by
-
-    def text(self) -> str:
-        """All of them, in the text format."""
-        return "".join(line + "\n" for line in self._lines())
-
-    def _lines(self) -> Iterator[str]:
-        for name, about in self._about.items():
-            yield about
-            for labels, value in (self._values[name] or {"": 0}).items():
-                number = value() if callable(value) else value
-                yield f"{name}{labels and '{' + labels + '}'} {number:g}" if number % 1 else \
-                    f"{name}{labels and '{' + labels + '}'} {number:.0f}"
-
-
-async def serve_health(where: int, is_ready: Callable[[], str], metrics: Metrics) -> asyncio.AbstractServer:
-    """Answers ``/healthz``, ``/readyz`` (503 with the reason while it is not) and ``/metrics`` on a port of this machine."""
-    async def connected(reader: asyncio.StreamReader, writer: asyncio.StreamWriter) -> None:
-        with contextlib.suppress(OSError, asyncio.TimeoutError, ValueError):
-            head = await asyncio.wait_for(reader.readuntil(b"\n"), 5)
-            status, body = _page(head.split(b" ")[1:2], is_ready, metrics)
-            writer.write(f"HTTP/1.1 {status}\r\nContent-Type: text/plain; charset=utf-8\r\nContent-Length: {len(body)}\r\n"
-                         "Connection: close\r\n\r\n".encode() + body)
-            await asyncio.wait_for(writer.drain(), 5)
-        writer.close()
-
-    async def guarded(reader: asyncio.StreamReader, writer: asyncio.StreamWriter) -> None:
-        with contextlib.suppress(asyncio.IncompleteReadError, asyncio.LimitOverrunError):
-            await connected(reader, writer)
-        writer.close()
-
-    return await asyncio.start_server(guarded, "127.0.0.1", where, limit=4096)
-
-
-def _page(path: List[bytes], is_ready: Callable[[], str], metrics: Metrics) -> Any:
-    why = is_ready()
-    if path == [b"/healthz"]:
-        return "200 OK", b"ok\n"
-    if path == [b"/readyz"]:
-        return ("503 Service Unavailable", f"{why}\n".encode()) if why else ("200 OK", b"ready\n")
-    if path == [b"/metrics"]:
-        return "200 OK", metrics.text().encode()
-    return "404 Not Found", b"/healthz, /readyz or /metrics\n"

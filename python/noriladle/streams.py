@@ -1,4 +1,4 @@
-"""Lanes on many machines, over Redis Streams: each row gets one answer, in order, whichever machine dies.
+"""Lanes on many machines, over Redis: each row gets one answer, in order, whichever machine dies.
 
     >>> async def sell(rows):
     ...     shop = Shop(["10.0.0.5:6379", "10.0.0.6:6379"])
@@ -10,301 +10,354 @@ docs/REDIS.md has the rules of this module, why they are enough, and what Redis 
 from __future__ import annotations
 
 import asyncio
-import random
+import contextlib
+import hashlib
+import re
+import secrets
 import time
 import zlib
-from collections import deque
+from collections import defaultdict, deque
 from itertools import islice
-from typing import AsyncIterator, Awaitable, Callable, Deque, Dict, Iterable, Iterator, List, NamedTuple, Optional, Sequence, Tuple
+from typing import (
+    Any, AsyncIterator, Awaitable, Callable, DefaultDict, Deque, Dict, Iterable, Iterator, List, Optional, Sequence, Set,
+    Tuple)
 
-from . import Refusal
-from ._redis import FAULTS, Fault, Redis, TooMuch, Word
-from .live import Hub
+from ._redis import FAULTS, Fault, Node, Redis as Shop, TooMuch, Word, whole
 
-__all__ = ["Entry", "Fault", "NoAnswer", "Shop", "Spent", "Till", "Worker", "answers", "lease", "rows"]
+__all__ = ["Fault", "NoAnswer", "Shop", "Till", "Worker", "answers", "mark", "rows", "status"]
 
-BATCH = 256
-SILENCE = 2000
-"""Milliseconds without an answer after which a till submits its rows again."""
-CUT = 65_536 + 1
-"""A longer row is cut to this length: the hub refuses it as too long anyway, and Redis accepts it."""
+SHARDS = 16
+"""One command of a worker reads all lanes of a shard. Every program must have the same number."""
+GROUP = "workers"
+IDLE = 1500
+"""Milliseconds after which a worker claims rows that another has read and not answered."""
+BATCH, CUT, BYTES = 256, 65_537, 1 << 17
+"""The most rows of an entry; the length to which a row is cut, which the hub refuses as too long anyway; and the most
+characters of an entry with several rows."""
+TURN, HELD, QUOTA = 1024, 4096, 32 << 20
+"""Rows that a worker answers at once; entries of answers that Redis keeps at most; and bytes of a lane's stream."""
+DAY, HOUR = 86_400_000, 3600
+_LANE = re.compile(r"[A-Za-z0-9._:-]{1,64}")
+_ROWS = re.compile(rf"nl:\{{(\d+)\}}:rows:({_LANE.pattern})")
+_FINAL = ("NOPERM", "WRONGPASS", "NOAUTH", "WRONGTYPE")
+"""Errors that an operator must remove before a till can go on."""
 
-_HOLD = """
-local holder = redis.call('GET', KEYS[1])
--- One that lasts longer than any is given was given before the node's clock stepped back.
-local old = holder and redis.call('PTTL', KEYS[1]) > 2 * ARGV[2]
-return (not holder or holder == ARGV[1] or old and tonumber(ARGV[2]) > 1) and redis.call('SET', KEYS[1], ARGV[1], 'PX', ARGV[2])
-"""
-"""Takes a lease that is free, or sets how long the worker's own lasts."""
-
-_CUT = """
-local found, after, size = {}, '(' .. ARGV[1], 0
-while #found < 256 and size < 1048576 do
-    local entry = redis.call('XRANGE', KEYS[1], after, '+', 'COUNT', 1)[1]
-    if not entry then break end
-    local text = ''
-    for i = 1, #entry[2], 2 do if entry[2][i] == 'widths' then text = string.sub(entry[2][i + 1], 1, ARGV[2]) break end end
-    found[#found + 1] = {entry[1], {'widths', text}}
-    after, size = '(' .. entry[1], size + #text
-end
-return found
-"""
-"""The rows after an ID, each cut, in case somebody has written entries that are too long to read whole."""
-
-
-_LAST = """
-local told = redis.call('XINFO', 'STREAM', KEYS[1])
-for i = 1, #told, 2 do if told[i] == 'last-generated-id' then return told[i + 1] end end
-"""
-"""The last ID of a stream, without its entries."""
-
-
-class Spent(Exception):
-    """A hub's lane has used all its numbers: it needs a new hub."""
+Entry = Tuple[str, List[str]]
+"""An entry of a stream: its ID, and its fields and values in turn."""
 
 
 class NoAnswer(TimeoutError):
     """A till had no answer in the time that its program allowed."""
 
 
-class Entry(NamedTuple):
-    """An entry of a stream: its ID and its fields."""
-
-    name: str
-    fields: Dict[str, str]
-
-
 def rows(lane: str) -> str:
-    """The stream of a lane's rows. The tag in braces puts all keys of a lane on one node."""
-    return f"shop:{{{lane}}}:rows"
+    """The stream of a lane's rows. The tag in braces puts all lanes of a shard on one node.
+
+    :raises ValueError: this is no name of a lane.
+    """
+    if not _LANE.fullmatch(lane):
+        raise ValueError(f"{lane!r} is no name of a lane, which has 1 to 64 of A-Z, a-z, 0-9, '.', '_', ':' and '-'")
+    return f"nl:{{{zlib.crc32(lane.encode()) % SHARDS}}}:rows:{lane}"
 
 
 def answers(lane: str) -> str:
     """The stream of a lane's answers."""
-    return f"shop:{{{lane}}}:answers"
-
-
-def lease(lane: str) -> str:
-    """The key of a lane's lease."""
-    return f"shop:{{{lane}}}:lease"
+    return _answers_of(rows(lane))
 
 
 def mark(text: str) -> str:
     """The mark of a row, which its answer repeats, so no till takes it for the answer to another row."""
-    return f"{zlib.crc32(text.encode('utf-8', 'replace')):08x}"
+    return hashlib.blake2b(text.encode("utf-8", "replace"), digest_size=6).hexdigest()
 
 
-class Shop(Redis):
-    """The streams of lanes, in a Redis Cluster or a Redis."""
-
-    async def append(self, stream: str, field: str, entries: Iterable[Tuple[str, ...]]) -> int:
-        """Appends texts under their own IDs, all or none, with the mark of the row that a text answers, if you give it.
-        Skips those whose IDs are not above the last, since they are there already, and returns how many these are."""
-        commands: List[List[Word]] = [
-            ["XADD", stream, name, field, text, *(["of", *of] if of else [])] for name, text, *of in entries]
-        replies = await (await self.node(stream)).ask_all([("MULTI",), *commands, ("EXEC",)])
-        if isinstance(replies[-1], Fault):
-            # The first refused command says why the whole was refused.
-            raise next((reply for reply in replies if isinstance(reply, Fault)), replies[-1])
-        faults = [reply for reply in replies[-1] if isinstance(reply, Fault)]
-        for fault in faults:
-            if "equal or smaller" not in str(fault):
-                raise fault
-        return len(faults)
-
-    async def last(self, stream: str) -> str:
-        """The last ID that a stream has had, even if its entry has been removed."""
-        node = await self.node(stream)
-        try:
-            told = await node.ask("XINFO", "STREAM", stream)
-        except TooMuch:
-            # The reply also has its first and last entries.
-            return str(await node.ask("EVAL_RO", _LAST, 1, stream))
-        except Fault as fault:
-            if "no such key" in str(fault):
-                return "0-0"
-            raise
-        return str(told[told.index("last-generated-id") + 1])
-
-    async def read(self, stream: str, after: str, milliseconds: Optional[int] = None) -> List[Entry]:
-        """The entries after an ID, at most 256. Waits this long for the first, or does not wait.
-
-        :raises TooMuch: they are too long.
-        """
-        waits: List[Word] = [] if milliseconds is None else ["BLOCK", milliseconds]
-        found = await (await self.node(stream)).ask("XREAD", "COUNT", BATCH, *waits, "STREAMS", stream, after)
-        return _entries(found[0][1]) if found else []
-
-    async def read_cut(self, stream: str, after: str) -> List[Entry]:
-        """The rows after an ID, each cut to the length of a row, about 1 MB in all."""
-        return _entries(await (await self.node(stream)).ask("EVAL_RO", _CUT, 1, stream, after, CUT))
-
-    async def trim(self, stream: str, least: str) -> None:
-        """Removes the entries below an ID."""
-        await (await self.node(stream)).ask("XTRIM", stream, "MINID", "=", least)
+def _answers_of(stream: str) -> str:
+    return stream.replace("}:rows:", "}:answers:", 1)
 
 
-def _entries(found: Sequence[Tuple[str, Sequence[str]]]) -> List[Entry]:
-    return [Entry(name, dict(zip(fields[::2], fields[1::2]))) for name, fields in found]
+def _fields(words: Sequence[Any]) -> Dict[str, Any]:
+    return dict(zip(words[::2], words[1::2]))
+
+
+async def status(node: Node) -> Dict[str, Tuple[float, int, int]]:
+    """What a node has of each lane: for how many seconds its oldest row without an answer has waited (0 if there is
+    none), the entries of rows without an answer, and how many of these a worker has read.
+
+    :raises Fault: the node refuses it.
+    :raises OSError: it does not answer.
+    """
+    seconds, micro = map(int, await node.ask("TIME"))
+    streams = sorted(await node.streams("nl:{*}:rows:*"))
+    told = await node.ask_all([words for it in streams for words in (["XLEN", it], ["XINFO", "GROUPS", it])])
+    found = {}
+    for stream, entries, groups in zip(streams, told[::2], told[1::2]):
+        waits = 0.0
+        with contextlib.suppress(TooMuch):
+            for name, _ in await node.ask("XRANGE", stream, "-", "+", "COUNT", 1) if entries else []:
+                waits = max(waits, seconds + micro / 1e6 - int(name.partition("-")[0]) / 1000)
+        found[stream.partition(":rows:")[2]] = waits, entries, sum(_fields(group)["pending"] for group in groups)
+    return found
 
 
 class Worker:
-    """Answers the rows of the lanes whose leases it holds, by the lanes of a hub.
+    """Answers the rows of all lanes, beside any number of other workers, and those that another has read and not
+    answered.
 
-    A lease only saves work: two workers on one lane would write the same answers. Workers with the same lanes share them
-    evenly.
+    ``answer`` gives the answers to some rows, in their order. ``seen`` gets a lane and the answers that were written;
+    ``note`` gets what an operator must know.
     """
 
     def __init__(
-        self, shop: Shop, name: str, lanes: Sequence[str], hub: Hub, milliseconds: int = 3000,
-        seen: Callable[[str, str], None] = lambda lane, answer: None, note: Callable[[str, str], None] = lambda what, lane: None,
+        self, shop: Shop, name: str, answer: Callable[[Sequence[str]], Awaitable[List[str]]],
+        seen: Callable[[str, List[str]], None] = lambda lane, said: None,
+        note: Callable[[str], None] = lambda said: None,
     ) -> None:
-        self.shop, self.name, self.lanes, self.hub, self.milliseconds = shop, name, lanes, hub, milliseconds
-        self.held: Dict[str, asyncio.Task[None]] = {}
-        self.began: Dict[str, float] = {}
-        """For each lane, when it read the rows that have no answer yet."""
-        self.stopping = False
-        self._left: List[asyncio.Task[None]] = []
-        self.given = self.refused = 0
-        self._seen, self._note = seen, note
-        self._share = len(lanes)
-        self._group = f"shop:workers:{' '.join(sorted(lanes))}"
+        self.shop, self.name, self.stopping = shop, name, False
+        self.given = self.claimed = self.dropped = 0
+        self.lanes: Dict[int, List[str]] = {}
+        """The streams of rows of each shard."""
+        self._answer, self._seen, self._note = answer, seen, note
+        self._known: Dict[str, bool] = {}
+        """The streams of rows that it has found, and whether it may answer them."""
+        self._busy: Set[str] = set()
+        self._full: Set[int] = set()
+        """Streams that had rows, and shards whose node had no memory left, since it looked how large streams are."""
+        self._counts: DefaultDict[int, int] = defaultdict(lambda: 1)
+        """How many entries of each lane of a shard it reads at once: about 256 rows, by what the last ones had."""
+        self._turns: DefaultDict[str, asyncio.Semaphore] = defaultdict(lambda: asyncio.Semaphore(2))
+        """By node, so a silent node stops no other. It reads no more than it can answer before others claim it."""
+        self._clocks: Dict[int, int] = {}
+        self._tidied: Dict[str, float] = {}
 
     async def run(self) -> None:
-        """Looks at each lease three times in its lifetime, until it must stop. Then it leaves the group, so the others take
-        its lanes at their next look, and gives up its leases.
-
-        :raises Spent: a lane of the hub has used all its numbers.
-        """
+        """Works until it must stop, and then ends what it has begun."""
+        serving = [asyncio.ensure_future(self._serve(shard)) for shard in range(SHARDS)]
+        looks: Dict[str, asyncio.Future[None]] = {}
         try:
             while not self.stopping:
-                await self._try(self._count)
-                for lane in random.sample(list(self.lanes), len(self.lanes)):
-                    await self._try(self._look, lane)
-                for task in [*self.held.values(), *self._left]:
-                    if task.done():
-                        task.result()
-                self._left = [task for task in self._left if not task.done()]
-                await asyncio.sleep(self.milliseconds / 3000)
+                await self._try(self._look_at_all(looks))
+                done, _ = await asyncio.wait(serving, timeout=0.5, return_when=asyncio.FIRST_EXCEPTION)
+                for task in done:
+                    task.result()
+            await asyncio.gather(*serving)
         finally:
-            tasks, self.held = self.held, {}
-            await asyncio.gather(*tasks.values(), *self._left, return_exceptions=True)
-        await self._try(self._leave)
-        for lane in tasks:
-            await self._try(self._hold, lane, 1)
+            for it in [*serving, *looks.values()]:
+                it.cancel()
+            await asyncio.gather(*serving, *looks.values(), return_exceptions=True)
 
-    def stop(self) -> None:
-        """Asks it to stop."""
-        self.stopping = True
-
-    async def _try(self, step: Callable[..., Awaitable[object]], *words: object) -> None:
-        """Runs a step on its own, so a node that is down does not delay the lanes of others."""
+    async def _try(self, step: Awaitable[None]) -> None:
         try:
-            await step(*words)
+            await step
         except FAULTS as fault:
             await self.shop.rest(fault)
 
-    async def _count(self) -> None:
-        """This worker's even share of the lanes, by the workers that were seen in the lifetime of a lease. The node's clock
-        may step."""
-        node = await self.shop.node(self._group)
-        seconds, microseconds = map(int, await node.ask("TIME"))
-        now = seconds * 1000 + microseconds // 1000
-        await node.ask("ZADD", self._group, now, self.name)
-        await node.ask("ZREMRANGEBYSCORE", self._group, 0, now - self.milliseconds)
-        await node.ask("ZREMRANGEBYSCORE", self._group, now + self.milliseconds, "+inf")
-        self._share = -(-len(self.lanes) // max(1, await node.ask("ZCARD", self._group)))
+    async def _look_at_all(self, looks: Dict[str, asyncio.Future[None]]) -> None:
+        """Looks for lanes, on each node by itself."""
+        for node in await self.shop.masters():
+            if node.address not in looks or looks[node.address].done():
+                looks[node.address] = asyncio.ensure_future(self._try(self._look_at(node)))
 
-    async def _leave(self) -> None:
-        await (await self.shop.node(self._group)).ask("ZREM", self._group, self.name)
+    async def _look_at(self, node: Node) -> None:
+        """Finds the lanes of a node, and empties streams that have too many bytes."""
+        there = {stream for stream in await node.streams("nl:{*}:rows:*") if _ROWS.fullmatch(stream)}
+        fresh = sorted(there - self._known.keys())
+        for stream, reply in zip(fresh, await node.ask_all([["XGROUP", "CREATE", it, GROUP, "0"] for it in fresh])):
+            if not isinstance(reply, Fault) or reply.kind == "BUSYGROUP":
+                self._known[stream] = True
+            elif reply.kind == "NOPERM":
+                self._give_up(stream, reply)
+        its = [shard for shard in range(SHARDS) if await self.shop.node(f"nl:{{{shard}}}") is node]
+        for shard in its:
+            self.lanes[shard] = [it for it in sorted(there) if it.startswith(f"nl:{{{shard}}}") and self._known.get(it)]
+        if self._full.intersection(its):
+            self._full.difference_update(its)
+            await self._empty(node, await node.streams("nl:*"), True)
+        busy = self._busy & there
+        self._busy -= busy
+        await self._empty(node, [it for stream in busy for it in (stream, _answers_of(stream))], False)
+        if time.monotonic() > self._tidied.get(node.address, -HOUR) + HOUR:
+            self._tidied[node.address] = time.monotonic()
+            await self._tidy(node, sorted(there))
 
-    async def _look(self, lane: str) -> None:
-        """Takes a lane whose lease is free, or is this worker's from before a restart. Extends the lease."""
-        wanted = len(self.held.keys() | {lane}) <= self._share
-        if wanted and await self._hold(lane, self.milliseconds):
-            if lane not in self.held:
-                self._note("took the lane", lane)
-                self.held[lane] = asyncio.create_task(self._serve(lane))
-        elif lane in self.held:
-            self._left.append(self.held.pop(lane))
-            self._note("gave the lane up" if not wanted else "lost the lane", lane)
-            if not wanted:
-                await self._hold(lane, 1)
+    def _give_up(self, stream: str, fault: Fault) -> None:
+        self._note(f"{stream} is not answered: {fault}")
+        self._known[stream] = False
 
-    async def _hold(self, lane: str, milliseconds: int) -> bool:
-        """Takes or extends a lease, if no other worker has it. To give it up, it sets a millisecond."""
-        node = await self.shop.node(lease(lane))
-        return bool(await node.ask("EVAL", _HOLD, 1, lease(lane), self.name, milliseconds))
+    async def _empty(self, node: Node, streams: Iterable[str], largest: bool) -> None:
+        """Empties the streams that have more bytes than they may, or the largest. Tills submit again what was in them."""
+        told = zip(streams, await node.ask_all([["MEMORY", "USAGE", it] for it in streams]))
+        sizes = {stream: size for stream, size in told if isinstance(size, int)}
+        most = max(sizes.values(), default=0) - 1 if largest else QUOTA
+        for stream in [it for it, size in sizes.items() if size > most]:
+            self.dropped += await node.ask("XTRIM", stream, "MAXLEN", 0)
+            self._note(f"{stream} is emptied: it has {sizes[stream]} bytes{', and Redis has no memory left' * largest}")
 
-    async def _serve(self, lane: str) -> None:
-        """Answers the rows of a lane while it holds the lease. A batch that is written later does no harm."""
-        me, done = asyncio.current_task(), None
-        while self.held.get(lane) is me:
+    async def _tidy(self, node: Node, streams: Sequence[str]) -> None:
+        """Tries lanes again that it may not answer, looks for those of an earlier version, and removes consumers that
+        have done nothing for a day. In case one has read rows since, all without an answer are delivered again."""
+        self._known = {stream: True for stream, may in self._known.items() if may}
+        for old in sorted(await node.streams("shop:{*}:rows"))[:1]:
+            self._note(f"{old} is a lane of version 1.1, which no worker of this version answers: "
+                       "docs/REDIS.md says how to upgrade")
+        for stream in streams:
+            told, = await node.ask_all([["XINFO", "CONSUMERS", stream, GROUP]])
+            for of in map(_fields, [] if isinstance(told, Fault) else told):
+                if of["pending"] == 0 and of["idle"] > DAY:
+                    await node.ask("XGROUP", "DELCONSUMER", stream, GROUP, of["name"])
+                    await node.ask("XGROUP", "SETID", stream, GROUP, "0")
+
+    async def _serve(self, shard: int) -> None:
+        """Reads and answers the rows of a shard's lanes."""
+        looked = 0.0
+        while not self.stopping:
+            lanes = self.lanes.get(shard)
+            if not lanes:
+                await asyncio.sleep(0.1)
+                continue
             try:
-                if done is None:
-                    done = await self.shop.last(answers(lane))
-                done = await self._answer(lane, done)
+                if time.monotonic() > looked + 1:
+                    looked = time.monotonic()
+                    await self._claim(shard, lanes)
+                await self._read(shard, lanes)
+            except TooMuch:
+                # They are this worker's now, which claims them one by one.
+                self._counts[shard] = 1
+                self._busy.update(lanes)
             except FAULTS as fault:
-                done = None  # Nobody knows whether the answers were written: go on after the last that was.
+                kind = fault.kind if isinstance(fault, Fault) else ""
+                if kind in ("NOGROUP", "NOPERM"):
+                    # A node has lost a group, or a lane: look again.
+                    self.lanes[shard] = []
+                    self._known = {it: may for it, may in self._known.items() if not (may and it in lanes)}
+                elif kind == "OOM":
+                    self._full.add(shard)
                 await self.shop.rest(fault)
-            finally:
-                self.began.pop(lane, None)
 
-    async def _answer(self, lane: str, done: str) -> str:
-        """Answers the rows after an ID, without a gap, and returns the ID of the last."""
+    async def _read(self, shard: int, lanes: Sequence[str]) -> None:
+        """Reads rows that nobody has read, and answers them. If there are none, waits for some without a turn."""
+        turn = self._turns[(await self.shop.node(lanes[0])).address]
+        words: List[Word] = ["XREADGROUP", "GROUP", GROUP, self.name, "COUNT", self._counts[shard]]
+        where = ["STREAMS", *lanes, *[">"] * len(lanes)]
+        async with turn:
+            found = await self.shop.ask(lanes[0], *words, *where)
+            if found:
+                return await self._give(shard, found)
+        found = await self.shop.ask(lanes[0], *words, "BLOCK", 1000, *where)
+        if found:
+            async with turn:
+                await self._give(shard, found)
+
+    async def _claim(self, shard: int, lanes: Sequence[str]) -> None:
+        """Takes the rows that nobody has answered for a while. At first, and if the node's clock has stepped back, it
+        takes all, since their times may be in the future."""
+        now = int((await self.shop.ask(lanes[0], "TIME"))[0])
+        idle = 0 if now < self._clocks.get(shard, 1 << 62) - 1 else IDLE
+        self._clocks[shard] = now
+        of: List[Word] = [GROUP, self.name, idle, "0-0", "COUNT", 64, "JUSTID"]
+        for lane, reply in zip(lanes, await self.shop.ask_all(lanes[0], [["XAUTOCLAIM", lane, *of] for lane in lanes])):
+            names = whole(reply)[1]
+            self.claimed += len(names)
+            if names:
+                await self._take(shard, lane, names)
+
+    async def _take(self, shard: int, lane: str, names: Sequence[str]) -> None:
+        """Answers entries that it has claimed. One that is too long it drops unread."""
+        found: List[Entry] = []
         try:
-            found = await self.shop.read(rows(lane), done, 200)
+            for reply in await self.shop.ask_all(lane, [["XRANGE", lane, name, name] for name in names]):
+                found += whole(reply)
         except TooMuch:
-            # No till of ours writes such entries. Each gets an error as its answer.
-            self._note("has entries that are too long", lane)
-            found = await self.shop.read_cut(rows(lane), done)
-        if not found:
-            return done
-        self.began[lane] = time.monotonic()
-        texts = [entry.fields.get("widths", "") for entry in found]
-        replies = self.hub.lane(self.lanes.index(lane)).read_all([text.replace("\n", "?")[:CUT] for text in texts])
-        # Take the rows' own numbers: those of the hub begin again in each process.
-        said = []
-        async for reply in replies:
-            if isinstance(reply.answer, Refusal) and reply.answer.number == 35:
-                raise Spent(f"lane {lane}: its hub has had all its rows")
-            said.append(str(reply.answer))
-            self._seen(lane, said[-1])
-        refused = await self.shop.append(
-            answers(lane), "answer", [(entry.name, text, mark(row)) for entry, text, row in zip(found, said, texts)])
-        self.refused += refused
-        self.given += len(said)
-        return found[-1].name
+            if len(names) > 1:
+                for half in (names[::2], names[1::2]):
+                    await self._take(shard, lane, half)
+                return
+            self.dropped += 1
+            self._note(f"{lane} has an entry that is too long, and is dropped: {names[0]}")
+        gone = sorted(set(names).difference(name for name, _ in found))
+        if gone:
+            await self.shop.ask_all(lane, [["XACK", lane, GROUP, *gone], ["XDEL", lane, *gone]])
+        await self._give(shard, [(lane, found)])
+
+    async def _give(self, shard: int, found: Sequence[Tuple[str, Sequence[Entry]]]) -> None:
+        """Answers entries, some 1,024 rows at a time, before others claim them."""
+        batch: List[Tuple[str, str, List[str], Dict[str, str]]] = []
+        entries = count = size = waits = 0
+        for lane, name, words in [(lane, *entry) for lane, some in found for entry in some]:
+            of = _fields(words)
+            texts = [text[:CUT] for text in of.get("t", "").split("\n", BATCH)[:BATCH]]
+            batch.append((lane, name, texts, of))
+            entries, count, size = entries + 1, count + len(texts), size + sum(map(len, words)) + 8 * len(words)
+            waits += len(texts)
+            if waits >= TURN:
+                await self._write(batch)
+                batch, waits = [], 0
+        if batch:
+            await self._write(batch)
+        if entries:
+            most = min(64, BATCH * entries // count, (1 << 19) * entries // size)
+            self._counts[shard] = max(1, min(2 * self._counts[shard], most))
+
+    async def _write(self, batch: Sequence[Tuple[str, str, List[str], Dict[str, str]]]) -> None:
+        """Writes answers and removes their rows, all or none."""
+        said = iter(await self._answer([text for _, _, texts, _ in batch for text in texts]))
+        commands: List[List[Word]] = []
+        told = [(lane, [next(said) for _ in texts]) for lane, _, texts, _ in batch]
+        names: DefaultDict[str, List[str]] = defaultdict(list)
+        for (lane, name, texts, of), (_, its) in zip(batch, told):
+            lines = "\n".join(f"{mark(text)} {answer}" for text, answer in zip(texts, its))
+            row = ["s", of.get("s", "")[:40], "n", of.get("n", "")[:20]]
+            commands.append(["XADD", _answers_of(lane), "MAXLEN", "~", HELD, "*", *row, "a", lines])
+            names[lane].append(name)
+        for lane, some in names.items():
+            commands += [["XACK", lane, GROUP, *some], ["XDEL", lane, *some]]
+        replies = await self.shop.ask_all(batch[0][0], [["MULTI"], *commands, ["EXEC"]])
+        for command, reply in zip(commands, replies[1:]):
+            if isinstance(reply, Fault) and reply.kind == "NOPERM":
+                self._give_up(str(command[1]).replace("}:answers:", "}:rows:"), reply)
+        for reply in [*replies, *(replies[-1] if isinstance(replies[-1], list) else [])]:
+            whole(reply)
+        for lane, its in told:
+            self.given += len(its)
+            self._busy.add(lane)
+            self._seen(lane.partition(":rows:")[2], its)
 
 
 class Till:
-    """A till: submits the rows of a lane and gets their answers.
+    """A till: submits the rows of a lane and gives their answers, in order and each once.
 
-    Its rows are numbered from 0, in its own series above those of the lane's earlier tills. With ``series`` and ``start``
-    it continues an earlier series, from the first row whose answer that till did not get. At most ``most`` rows wait for
-    their answers. With ``keep`` about that many answered rows stay in the streams, and older ones are removed; otherwise
-    all stay. If no answer comes for 2 seconds, the till calls ``note`` once. If none comes for ``patience`` seconds, the
-    call raises :class:`NoAnswer`; without ``patience`` it waits. After such an error, or after you cancel a call, the till
-    cannot be used again.
+    Its rows are numbered from 0, in a series of its own, so a lane may have several tills. With ``series`` and
+    ``start`` it continues an earlier till, from the first row whose answer that till did not give. At most ``most`` rows
+    wait for their answers. If no answer comes for 2 seconds, the till calls ``note`` once. If none comes for
+    ``patience`` seconds, the call raises :class:`NoAnswer`; without ``patience`` it waits. After such an error, or after
+    you cancel a call, the till cannot be used again.
+
+    :raises ValueError: this is no name of a lane.
     """
 
     def __init__(
-        self, shop: Shop, lane: str, series: Optional[int] = None, start: int = 0, *, most: int = 1024,
-        keep: Optional[int] = None, patience: Optional[float] = None, note: Callable[[str], None] = lambda said: None,
+        self, shop: Shop, lane: str, series: Optional[str] = None, start: int = 0, *, most: int = 1024,
+        patience: Optional[float] = None, note: Callable[[str], None] = lambda said: None,
     ) -> None:
-        self.shop, self.lane, self.series, self.most, self.keep = shop, lane, series, most, keep
-        self.number = start
-        self.repeated = 0
+        self.shop, self.lane, self.most = shop, lane, most
+        self.series, self.number = series or secrets.token_hex(8), start
+        """The number is that of the first row that has no answer yet."""
+        self.repeated = self.lost = self.strange = 0
+        """Rows that were submitted again; that Redis had lost; and answers to other rows of these names."""
+        self._rows, self._answers = rows(lane), answers(lane)
         self._patience, self._note = patience, note
         self._kept: Deque[str] = deque()
-        self._sent = 0
-        self._repeats = series is not None
-        self._goes_on = series is not None
-        self._stood = start
-        """The till that this one continues has submitted the rows below this one."""
-        self._trimmed = start
-        self._since = time.monotonic()
-        self._is_told = False
+        self._got: Dict[int, str] = {}
+        self._next = start
+        self._sent: Dict[int, str] = {}
+        """The ID of each entry, by the number of its first row."""
+        self._place = "0-0" if series else ""
+        self._passed: List[str] = []
+        self._unsure = False
+        self._begin()
+
+    def _begin(self) -> None:
+        """An answer has come, or the program has asked."""
+        self._heard = self._looked = time.monotonic()
+        self._alarm = 2.0
 
     async def read(self, text: str) -> str:
         """The answer to a row."""
@@ -313,96 +366,122 @@ class Till:
     async def read_all(self, texts: Iterable[str]) -> AsyncIterator[Tuple[int, str]]:
         """The number of each row and its answer, in the order of the rows.
 
-        :raises LookupError: another till has written to the lane.
         :raises NoAnswer: none has come in time.
+        :raises LookupError: somebody has used up the IDs of the lane's stream.
+        :raises Fault: the till has no right to the lane, or a key of it has another type.
         """
         rest = iter(texts)
-        self._since, self._is_told = time.monotonic(), False
+        self._begin()
         while self._take(rest):
             try:
-                found = await self._turn()
+                await self._turn()
             except FAULTS as fault:
-                self._repeat()
-                self._wait()
+                if isinstance(fault, Fault) and fault.kind in _FINAL:
+                    raise
+                self._unsure = True
                 await self.shop.rest(fault)
-                continue
-            if not found:
+            if self.number not in self._got:
                 self._wait()
-            for entry in found:
-                if not self._kept and entry.name.startswith(f"{self.series}-") and self._first < self._stood:
-                    break  # The answer to a row of the earlier till, which this one has not reached yet.
-                if not self._kept or entry.name != self._name(self._first):
-                    raise LookupError(f"lane {self.lane}: an answer to {entry.name}, which is not the next row")
-                if entry.fields.get("of", "") != mark(self._kept[0]):
-                    raise LookupError(f"lane {self.lane}: the answer to another row {entry.name}: another till has this series")
-                self._since, self._is_told = time.monotonic(), False
+            while self.number in self._got:
                 self._kept.popleft()
-                self._sent = max(0, self._sent - 1)
-                yield self._first - 1, entry.fields["answer"]
-
-    def _wait(self) -> None:
-        """Reports that no answer comes; raises an error after the program's time."""
-        silent = time.monotonic() - self._since
-        if self._patience is not None and silent >= self._patience:
-            raise NoAnswer(f"lane {self.lane}: no answer for {self._patience:g} seconds")
-        if not self._is_told and silent >= SILENCE / 1000:
-            self._note(f"lane {self.lane}: no worker answers")
-            self._is_told = True
-
-    @property
-    def _first(self) -> int:
-        """The number of the first row that has no answer yet."""
-        return self.number - len(self._kept)
-
-    def _name(self, number: int) -> str:
-        return f"{self.series}-{number}"
+                self.number += 1
+                yield self.number - 1, self._got.pop(self.number - 1)
+                self._begin()
 
     def _take(self, rest: Iterator[str]) -> int:
         """Takes more rows, as many as may wait, and returns how many wait."""
-        more = [text[:CUT] for text in islice(rest, self.most - len(self._kept))]
-        self._kept.extend(more)
-        self.number += len(more)
+        self._kept.extend(text.replace("\n", "?")[:CUT] for text in islice(rest, self.most - len(self._kept)))
         return len(self._kept)
 
-    def _repeat(self) -> None:
-        """Nobody knows which rows are there: submit all without an answer again."""
-        self._sent, self._repeats = 0, True
-        self.repeated += 1
+    def _wait(self) -> None:
+        """Reports that no answer comes; raises an error after the program's time. Rows that only wait are not submitted
+        again before 12 seconds: that would be more work for workers that have too much."""
+        silent = time.monotonic() - self._heard
+        if self._patience is not None and silent >= self._patience:
+            raise NoAnswer(f"lane {self.lane}: no answer for {self._patience:g} seconds")
+        if silent >= self._alarm:
+            if self._alarm == 2:
+                self._note(f"lane {self.lane}: no worker answers")
+            else:
+                self._repeat(self.number)
+            self._alarm = max(12, 2 * self._alarm)
 
-    async def _turn(self) -> List[Entry]:
-        """Submits the next rows, and returns the answers that are there. When all rows are submitted, waits for one."""
-        if self.series is None:
-            # Random, above the last: no other till has the same, not even one whose rows a node has lost.
-            self.series = 1 + int((await self.shop.last(rows(self.lane))).partition("-")[0]) + random.getrandbits(40)
-            if self.series >= 2 ** 64:
-                raise LookupError(f"lane {self.lane}: somebody has taken the last IDs of its stream; take another lane")
-        if self._goes_on:
-            series, _, number = (await self.shop.last(rows(self.lane))).partition("-")
-            self._stood, self._goes_on = int(number) + 1 if series == str(self.series) else self._stood, False
-        await self._trim()
+    def _repeat(self, first: int) -> None:
+        """Submits the rows from this one on again."""
+        self.repeated += self._next - first
+        self._next, self._sent = first, {n: name for n, name in self._sent.items() if n < first}
+
+    async def _turn(self) -> None:
+        """Submits the rows that have not been submitted, and reads answers."""
+        if not self._place:
+            last = await self.shop.ask(self._answers, "XREVRANGE", self._answers, "+", "-", "COUNT", 1)
+            self._place = last[0][0] if last else "0-0"
+        if self._unsure or time.monotonic() - self._looked > IDLE / 1000:
+            await self._look()
         await self._submit()
-        waits = self._sent == len(self._kept)
-        before = self._name(self._first - 1) if self._first else f"{self.series - 1}-{2 ** 64 - 1}"
-        most = SILENCE if self._patience is None else max(1, min(SILENCE, int(self._patience * 1000)))
-        found = await self.shop.read(answers(self.lane), before, most if waits else None)
-        if waits and not found:
-            self._repeat()  # A node may have lost them while nobody asked it.
-        return found
+        await self._read(500 if self._patience is None else max(1, min(500, int(self._patience * 1000))))
 
     async def _submit(self) -> None:
-        begin = self._first + self._sent
-        texts = islice(self._kept, self._sent, self._sent + BATCH)
-        fresh = [(self._name(number), text) for number, text in enumerate(texts, begin)]
-        if fresh:
-            stood = await self.shop.append(rows(self.lane), "widths", fresh)
-            if stood > max(0, self._stood - begin) and not self._repeats:
-                raise LookupError(f"lane {self.lane}: another has submitted {fresh[0][0]} or a row above")
-            self._sent += len(fresh)
-        self._repeats = self._repeats and self._sent < len(self._kept)
+        batches = list(self._batches())
+        its: List[Word] = [self._rows, "*", "s", self.series, "n"]
+        commands = [["XADD", *its, n, "t", "\n".join(texts)] for n, texts in batches]
+        for (n, texts), reply in zip(batches, await self.shop.ask_all(self._rows, commands) if commands else []):
+            if isinstance(reply, Fault) and "exhausted" in str(reply):
+                raise LookupError(f"lane {self.lane}: somebody has used up the IDs of its stream: delete {self._rows}")
+            self._sent[n] = whole(reply)
+            self._next = n + len(texts)
+        self._sent = {n: name for n, name in self._sent.items() if n + BATCH > self.number}
 
-    async def _trim(self) -> None:
-        """Removes what the till has read, by ID, so rows without an answer stay. Only the till knows this."""
-        if self.keep is not None and self._first - self.keep >= self._trimmed + BATCH:
-            self._trimmed = self._first - self.keep
-            for stream in (rows(self.lane), answers(self.lane)):
-                await self.shop.trim(stream, self._name(self._trimmed))
+    def _batches(self) -> Iterator[Tuple[int, List[str]]]:
+        """The rows that are not submitted, entry by entry, each with the number of its first row."""
+        n, size = self._next, 0
+        texts: List[str] = []
+        for text in islice(self._kept, self._next - self.number, None):
+            if len(texts) == BATCH or texts and size + len(text) > BYTES:
+                yield n, texts
+                n, texts, size = n + len(texts), [], 0
+            texts.append(text)
+            size += len(text)
+        if texts:
+            yield n, texts
+
+    async def _read(self, wait: int) -> bool:
+        """Reads answers: takes each that names a row which waits, once. Removes what was read a while ago."""
+        waits: List[Word] = ["BLOCK", wait] if wait else []
+        found = await self.shop.ask(self._answers, "XREAD", "COUNT", 64, *waits, "STREAMS", self._answers, self._place)
+        for self._place, words in found[0][1] if found else []:
+            self._passed.append(self._place)
+            of = _fields(words)
+            if of.get("s") == self.series and of.get("n", "").isdecimal():
+                for n, line in enumerate(of.get("a", "").split("\n"), int(of["n"])):
+                    self._accept(n, line)
+        if len(self._passed) >= 128:
+            await self.shop.ask(self._answers, "XTRIM", self._answers, "MINID", self._passed[-64])
+            self._passed.clear()
+        return bool(found)
+
+    def _accept(self, n: int, line: str) -> None:
+        if self.number <= n < self._next and n not in self._got:
+            its, _, answer = line.partition(" ")
+            if its == mark(self._kept[n - self.number]):
+                self._got[n] = answer
+            else:
+                self.strange += 1
+
+    async def _look(self) -> None:
+        """After an error or a silence: asks for each entry that Redis had acknowledged, and then reads all answers that
+        are there, since their IDs may be below this till's place. What is neither a row nor answered is lost."""
+        begins, there = sorted(self._sent), []
+        for some in (begins[at:at + 16] for at in range(0, len(begins), 16)):
+            names = [self._sent[n] for n in some]
+            there += await self.shop.ask_all(self._rows, [["XRANGE", self._rows, name, name] for name in names])
+        self._place = "0-0"
+        while await self._read(0):
+            pass
+        self._unsure, self._looked = False, time.monotonic()
+        for n, end, found in zip(begins, [*begins[1:], self._next], there):
+            left = sum(it not in self._got for it in range(max(n, self.number), end))
+            if left and _fields(whole(found)[0][1] if found else []).get("s") != self.series:
+                self.lost += left
+                self._note(f"lane {self.lane}: Redis has lost rows or answers from {n} on; they are submitted again")
+                return self._repeat(max(n, self.number))

@@ -117,16 +117,10 @@ async def one_at_a_time(address, asked, lanes, count):
     return middle(sum(times, []))
 
 
-async def all_share(address, workers):
-    shop = Shop(address)
-    await workers.share(shop)
-    await shop.close()
-
-
 def measure_redis(fsync, number):
     asked, wanted = rows_of(COUNT)
     with Cluster(more=f"appendfsync {fsync}\n") as cluster, Workers(cluster.address, number) as workers:
-        asyncio.run(all_share(cluster.address, workers))
+        asyncio.run(read_lanes(cluster.address, {lane: asked[lane][:1] for lane in LANES}))  # The workers have found them.
         before, begin = costs(cluster, workers), time.perf_counter()
         got = at_once(cluster.address, asked)
         took, after = time.perf_counter() - begin, costs(cluster, workers)

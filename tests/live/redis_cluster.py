@@ -122,6 +122,36 @@ class Cluster:
         self.start(port)
 
 
+def make_certificates(folder):
+    """An authority, and certificates by it of a node and of a client; and those of another authority."""
+    def make(*words):
+        subprocess.run(["openssl", *words], cwd=folder, check=True, capture_output=True)
+
+    (folder / "names").write_text("subjectAltName=IP:127.0.0.1\n")
+    for authority in ("ca", "other"):
+        make("req", "-x509", "-newkey", "ec", "-pkeyopt", "ec_paramgen_curve:prime256v1", "-nodes", "-keyout", f"{authority}.key", "-out", f"{authority}.pem", "-days", "2",
+             "-subj", f"/CN={authority}", "-addext", "keyUsage=critical,keyCertSign")
+    for name in ("node", "client"):
+        make("req", "-newkey", "ec", "-pkeyopt", "ec_paramgen_curve:prime256v1", "-nodes", "-keyout", f"{name}.key", "-out", f"{name}.csr", "-subj", f"/CN={name}")
+        make("x509", "-req", "-in", f"{name}.csr", "-CA", "ca.pem", "-CAkey", "ca.key", "-CAcreateserial", "-days", "2", "-out", f"{name}.pem",
+             "-extfile", "names")
+    return folder
+
+
+class Secured(Cluster):
+    """A cluster that clients reach over TLS, each node by a port that is 20,000 above its own."""
+
+    def __init__(self, nodes=3):
+        super().__init__(nodes)
+        make_certificates(self.root)
+
+    def start(self, port):
+        of = self.root
+        self.more = (f"tls-port {port + 20_000}\ntls-cluster no\ntls-auth-clients yes\ntls-cert-file {of}/node.pem\n"
+                     f"tls-key-file {of}/node.key\ntls-ca-cert-file {of}/ca.pem\n")
+        super().start(port)
+
+
 class Preloaded(Cluster):
     """A node with functions in C instead of the system's; a folder has the build."""
 

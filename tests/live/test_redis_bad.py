@@ -1,6 +1,8 @@
 """Bad input and full stores: what Redis, `noriladle worker` and tills do."""
 import asyncio
+import hashlib
 import os
+import re
 import socket
 import subprocess
 import threading
@@ -8,14 +10,13 @@ import time
 
 import pytest
 
-from workers_and_tills import LANES, NORILADLE, Shop, Till, Worker, Workers, keys, check, read_lane, read_lanes, rows_of, streams
+from workers_and_tills import LANES, NORILADLE, Shop, Till, Worker, Workers, entries, keys, nothing_left, read_lane, read_lanes, rows_of
 from redis_cluster import Cluster, Preloaded, ask
-from noriladle.live import Hub
 from noriladle.streams import Fault
 from program_and_rows import EAN13, READ, noise
 
 LIMIT = 600
-ROWS = keys.rows("3")
+ROWS, ANSWERS = keys.rows("3"), keys.answers("3")
 NO_ROWS = {
     "": "18 BadRuns", "3,100": "39 Csv", "no row": "18 BadRuns", "5 3": "18 BadRuns", "70000": "17 TooWide",
     "1\n2": "18 BadRuns", "\u20ac": "18 BadRuns", "1 " * 40_000: "44 InputSize", "1 " * 5_000_000: "44 InputSize",
@@ -29,14 +30,46 @@ def test_what_is_no_row_has_one_answer_too():
     with Cluster() as cluster, Workers(cluster.address, 1) as workers:
         got = asyncio.run(read_lane(cluster.address, "3", [EAN13, *NO_ROWS, *TEXTS, EAN13]))
         assert got == [READ, *(f"refused {fault}" for fault in NO_ROWS.values()), *TEXTS.values(), READ]
-        # Behind the till's back: another field, bytes that are no text, and two fields of one name.
-        for words in (["x", "y"], ["widths", b"\xff\xfe\x01"], ["widths", "100", "widths", EAN13]):
-            add = ["redis-cli", "-p", str(cluster.holder(ROWS)), "XADD", ROWS, "*", *words]
-            subprocess.run(add, capture_output=True, check=True)
-        time.sleep(1)
-        said, names = asyncio.run(streams(cluster.address, ["3"]))
-        assert [name for name, _ in said["3"]] == names["3"] and len(names["3"]) == len(NO_ROWS) + len(TEXTS) + 5
-        assert [answer for _, answer in said["3"][-3:]] == ["refused 18 BadRuns", "refused 18 BadRuns", READ]
+        workers.end()
+
+
+@pytest.mark.limit(40)
+def test_many_long_rows():
+    """An entry of Redis takes 1 MB: rows of the largest length go in entries of their own."""
+    texts = ["]E0" + "9" * 65_000 for _ in range(300)] + ["\U0001f600" * 65_537] * 3 + [EAN13]
+    with Cluster(nodes=1) as cluster, Workers(cluster.address, 1) as workers:
+        got = asyncio.run(read_lane(cluster.address, "3", texts))
+        assert got == ["refused 1 Length"] * 300 + ["refused 44 InputSize"] * 3 + [READ]
+        workers.end()
+
+
+@pytest.mark.limit(40)
+def test_entries_that_are_no_rows():
+    """Behind the till's back: other fields, bytes that are no text, fields of one name, numbers that are none. Each is answered or
+    dropped, none stops the lane, and the till is given none of the answers."""
+    strange = [["x", "y"], ["t", b"\xff\xfe\x01"], ["t", "100", "t", EAN13], ["s", "", "n", "", "t", ""], ["n", "-1", "t", "100"],
+               ["s", "9" * 1000, "n", "9" * 1000, "t", "100"], ["s", "e", "n", "0", "t", "\n" * 5000], ["s", "e", "n", "\u00b2", "t", "1"]]
+    with Cluster(nodes=1) as cluster, Workers(cluster.address, 1) as workers:
+        async def test():
+            shop = Shop(cluster.address)
+            till = Till(shop, "3")
+            assert await till.read(EAN13) == READ
+            strange.append(["s", till.series, "n", "1", "t", "100"])  # Another row under the name of its next one.
+            strange.append(["s", till.series, "n", "9" * 19, "t", "100"])
+            for words in strange:
+                add = ["redis-cli", "-p", str(cluster.ports[0]), "XADD", ROWS, "*", *words]
+                assert subprocess.run(add, capture_output=True, check=True).stdout.strip()
+            # And what is no answer, as if by somebody with the password of the workers.
+            for words in (["x", "y"], ["s", till.series], ["s", till.series, "n", "1"], ["s", till.series, "n", "\u0661", "a", ""]):
+                ask(cluster.ports[0], "XADD", ANSWERS, "*", *words)
+            assert [await till.read(EAN13) for _ in range(5)] == [READ] * 5 and till.number == 6
+            await asyncio.sleep(1)
+            await shop.close()
+
+        asyncio.run(test())
+        nothing_left(cluster.address, ["3"])
+        said = [of.get("a", "").split("\n") for _, of in asyncio.run(entries(cluster.address, ANSWERS))]
+        assert max(map(len, said)) == 256
         workers.end()
 
 
@@ -53,103 +86,210 @@ def test_no_answer_waits_for_a_later_row():
             assert till.communicate("100", timeout=10)[0] == "20 refused 19 Blank\n"
 
 
-def test_a_foreign_row_is_told():
-    """Under an ID of the server it would hide the till's next row."""
-    with Cluster() as cluster, Workers(cluster.address, 1):
-        async def test():
-            shop = Shop(cluster.address)
-            till = Till(shop, "3")
-            assert await till.read(EAN13) == READ
-            await (await shop.node(ROWS)).ask("XADD", ROWS, "*", "widths", "100")
-            with pytest.raises(LookupError, match=f"lane 3: another has submitted {till.series}-1 or a row above"):
-                await till.read(EAN13)
-            # The next till takes a series above.
-            assert await Till(shop, "3").read(EAN13) == READ
-            await shop.close()
-
-        asyncio.run(test())
+def locked(cluster, *lanes):
+    """Gives the nodes the users of `noriladle worker --acl`, with the password open, as a file that survives a restart."""
+    told = subprocess.run([*NORILADLE, "worker", "--acl", *lanes], capture_output=True, text=True, check=True).stdout
+    file = cluster.root / "users.acl"
+    file.write_text(told.replace("#HASH", "#" + hashlib.sha256(b"open").hexdigest()))
+    return told
 
 
-def test_a_foreign_answer_is_told():
-    with Cluster() as cluster:
-        async def test():
-            shop = Shop(cluster.address)
-            await shop.append(keys.answers("3"), "answer", [("7-0", READ)])
-            till = Till(shop, "3")
-            till.series = 6
-            with pytest.raises(LookupError, match="lane 3: an answer to 7-0, which is not the next row"):
-                await till.read(EAN13)
-            await shop.close()
-
-        asyncio.run(test())
-
-
-def test_all_or_none():
-    """Redis cuts the connection at a value of more than 1 MB; nothing of its batch stands there then."""
-    with Cluster(nodes=1) as cluster:
-        async def test():
-            shop = Shop(cluster.address)
-            with pytest.raises((Fault, OSError)):
-                await shop.append(ROWS, "widths", [("1-0", "100"), ("1-1", "1 " * 1_000_000), ("1-2", "100")])
-            assert await shop.last(ROWS) == "0-0"
-            assert await shop.append(ROWS, "widths", [("1-0", "100"), ("1-1", "100")]) == 0
-            assert await shop.append(ROWS, "widths", [("1-1", "100"), ("1-2", "100")]) == 1
-            await shop.close()
-
-        asyncio.run(test())
-        assert asyncio.run(streams(cluster.address, ["3"]))[1]["3"] == ["1-0", "1-1", "1-2"]
-
-
-@pytest.mark.limit(40)
+@pytest.mark.limit(60)
 def test_users_write_what_is_theirs():
-    """By the lists of rights of `noriladle worker --acl`, for a till of lane 3 and for the workers; nobody else does anything."""
-    told = subprocess.run([*NORILADLE, "worker", "--acl", "3"], capture_output=True, text=True, check=True).stdout
-    lists = [line.split() for line in told.splitlines()]
-    users = {words[2]: words[4][1:] for words in lists if words[3] == "on"}
-    assert list(users) == ["worker", "till.3"] and lists[-1] == ["ACL", "SETUSER", "default", "off"]
-    with Cluster() as cluster:
-        for port in cluster.ports:
-            assert [ask(port, *words) for words in lists] == ["OK", "OK", "OK"]
-            assert ask(port, "PING") == "NOAUTH Authentication required."
-
+    """By the rights of `noriladle worker --acl`, also after the nodes are started again; nobody else does anything."""
+    cluster = Cluster(more="")
+    told = locked(cluster, "3")
+    cluster.more = f"aclfile {cluster.root}/users.acl\n"
+    assert [line.split()[1] for line in told.splitlines()] == ["default", "admin", "replica", "sentinel", "worker", "till.3"]
+    assert told.startswith("user default off\n")
+    real_ask = ask
+    cluster.ask = lambda port, *words: real_ask(port, "--no-auth-warning", "--user", "admin", "--pass", "open", *words)
+    with cluster:
         async def test():
-            worker, till = (Shop(cluster.address, *of) for of in users.items())
-            async with Hub(1, 1, 2026) as hub:
-                one = Worker(worker, "one", ["3"], hub)
-                running = asyncio.create_task(one.run())
-                assert await Till(till, "3").read(EAN13) == READ
-                assert len([answer async for answer in Till(till, "3", keep=0).read_all(["100"] * 600)]) == 600
-                one.stop()
-                await running
-            forbidden = [
-                till.append(keys.answers("3"), "answer", [("9-0", READ)]),
-                till.append(keys.rows("4"), "widths", [("9-0", EAN13)]),
-                till.read(keys.answers("4"), "0-0"),
-                Till(till, "4", series=1).read(EAN13),
-                worker.append(keys.rows("3"), "widths", [("9-0", EAN13)]),
-                Shop(cluster.address, "till.3", "wrong").last(keys.rows("3")),
-            ]
-            for call in forbidden[:-1]:
-                with pytest.raises(Fault, match="^NOPERM"):
-                    await call
+            worker, till = (Shop(cluster.address, name, "open") for name in ("worker", "till.3"))
+
+            async def answer(texts):
+                return [READ] * len(texts)
+
+            one = Worker(worker, "one", answer, note=notes.append)
+            running = asyncio.create_task(one.run())
+            assert len([answer async for _, answer in Till(till, "3").read_all(["100"] * 600)]) == 600
+            # A lane that its till may not write.
+            with pytest.raises(Fault, match="^NOPERM"):
+                await Till(till, "4").read(EAN13)
             with pytest.raises(Fault, match="^WRONGPASS"):
-                await forbidden[-1]
-            # Also what a worker does with entries that are too long to be read whole, and at its end.
-            assert await worker.read_cut(keys.rows("3"), "0-0")
-            node = await till.node(keys.rows("3"))
-            assert await node.ask("EVAL_RO", keys._LAST, 1, keys.rows("3")) == await till.last(keys.rows("3"))
+                await Till(Shop(cluster.address, "till.3", "wrong"), "3").read(EAN13)
+            with pytest.raises(Fault, match="^NOAUTH"):
+                await Till(Shop(cluster.address), "3").read(EAN13)
+            one.stopping = True
+            await running
             await till.close()
             await worker.close()
 
+        notes = []
         asyncio.run(test())
+        for port in cluster.ports:
+            assert ask(port, "PING") == "NOAUTH Authentication required."
+            cluster.kill(port)
+            cluster.start(port)
+            assert ask(port, "PING") == "NOAUTH Authentication required."
+        cluster.wait()
+        asyncio.run(test())
+        assert notes == []
+
+
+@pytest.mark.limit(60)
+def test_what_the_password_of_a_till_may_do():
+    """Of all commands, with the lane's own keys and with those of another, as Redis itself judges: what a till needs."""
+    other = "nl:{5}:rows:4", "nl:{5}:answers:4", "shop:{3}:rows", "nl:x"
+    with Cluster(nodes=1) as cluster:
+        port = cluster.ports[0]
+        for line in locked(cluster, "3").splitlines()[1:]:
+            words = line.replace("#HASH", ">open").replace("(", " (").split("(")
+            rules = [*words[0].split(), *("(" + it.strip() for it in words[1:])]
+            assert ask(port, "ACL", "SETUSER", *rules[1:]) == "OK", rules
+        asked = [(command, key, words) for command in ask(port, "COMMAND", "LIST").split() for key in (ROWS, ANSWERS, *other)
+                 for words in ([key, "*", "a", "b"], [key, "1", "2", "3"], ["STREAMS", key, "0"], ["1", key], [key], [])]
+
+        async def test():
+            shop = Shop(cluster.address)
+            dry = [["ACL", "DRYRUN", "till.3", *command.split("|"), *words] for command, _, words in asked]
+            told = [said for at in range(0, len(dry), 500) for said in await shop.ask_all(ROWS, dry[at:at + 500])]
+            await shop.close()
+            return {(command, key if words else "") for (command, key, words), said in zip(asked, told)
+                    if said == "OK" and (command != "xread" or words[:1] == ["STREAMS"])}
+
+        allowed = asyncio.run(test())
+        assert {(name, key) for name, key in allowed if key in other and name not in ("ping", "auth", "hello", "quit", "reset")} == set()
+        mine = {(name, key) for name, key in allowed if key in (ROWS, ANSWERS) and name not in ("ping", "auth", "hello", "quit", "reset")}
+        assert mine == {("xadd", ROWS), ("xrange", ROWS), ("xread", ANSWERS), ("xrevrange", ANSWERS), ("xtrim", ANSWERS)}
+        assert {name for name, key in allowed if not key} <= {"ping", "auth", "hello", "quit", "reset", "cluster|slots"}
+
+
+@pytest.mark.limit(60)
+def test_one_lane_without_a_right():
+    """Its rows wait, an operator is told, and the other lanes go on; also if a worker may read it, and not write its answers."""
+    with Cluster(nodes=1) as cluster:
+        port = cluster.ports[0]
+        common = ["+@all", "resetchannels", "on", ">open"]
+        twins = [lane for lane in map(str, range(200)) if keys.rows(lane)[:6] == keys.rows("3")[:6]][:3]
+        lane, half, good = twins
+        told = []
+
+        async def test():
+            worker = Shop(cluster.address, "worker", "open")
+
+            async def answer(texts):
+                return [READ] * len(texts)
+
+            made = {name: Till(Shop(cluster.address), name) for name in twins}
+            tills = {name: asyncio.ensure_future(till.read(EAN13)) for name, till in made.items()}
+            one = Worker(worker, "one", answer, note=told.append)
+            running = asyncio.ensure_future(one.run())
+            assert await tills[good] == READ
+            till = Till(Shop(cluster.address), good)
+            for _ in range(20):
+                assert await till.read(EAN13) == READ
+                await asyncio.sleep(0.1)
+            assert not tills[lane].done() and not tills[half].done()
+            # And none of their rows has gone.
+            assert made[lane].lost == made[half].lost == 0
+            one.stopping = True
+            await running
+            for task in tills.values():
+                task.cancel()
+            await asyncio.gather(*tills.values(), return_exceptions=True)
+
+        ask(port, "ACL", "SETUSER", "worker", "reset", *common, f"~{keys.rows(good)}", f"~{keys.answers(good)}", f"~{keys.rows(half)}")
+        asyncio.run(test())
+        assert any(keys.rows(lane) in it and "NOPERM" in it for it in told) and any(keys.rows(half) in it and "NOPERM" in it for it in told)
+
+
+@pytest.mark.limit(120)
+def test_a_password_that_is_wrong_for_a_while():
+    """A worker goes on by itself when its user is there again."""
+    with Cluster(nodes=1) as cluster, Workers(cluster.address, 0, more=["--user", "worker"]) as workers:
+        os.environ["REDIS_PASSWORD"] = "open"
+        try:
+            workers.start("worker0")
+        finally:
+            del os.environ["REDIS_PASSWORD"]
+        time.sleep(3)
+        assert workers.running["worker0"].poll() is None
+        ask(cluster.ports[0], "ACL", "SETUSER", "worker", "on", ">open", "~*", "+@all")
+        assert asyncio.run(read_lane(cluster.address, "3", [EAN13], patience=40)) == [READ]
+        ask(cluster.ports[0], "ACL", "DELUSER", "worker")
+        time.sleep(3)
+        ask(cluster.ports[0], "ACL", "SETUSER", "worker", "on", ">open", "~*", "+@all")
+        assert asyncio.run(read_lane(cluster.address, "3", [EAN13], patience=40)) == [READ]
+        assert "WRONGPASS" in workers.kill("worker0")
+
+
+@pytest.mark.limit(60)
+def test_a_till_of_another_type_or_without_ids():
+    """It says what is wrong, and does not try for ever."""
+    with Cluster(nodes=1) as cluster, Workers(cluster.address, 1):
+        port = cluster.ports[0]
+
+        async def read(lane):
+            shop = Shop(cluster.address)
+            try:
+                return await Till(shop, lane, patience=20).read(EAN13)
+            finally:
+                await shop.close()
+
+        ask(port, "SET", keys.rows("1"), "x")
+        with pytest.raises(Fault, match="^WRONGTYPE"):
+            asyncio.run(read("1"))
+        ask(port, "XADD", ROWS, f"{2 ** 64 - 1}-{2 ** 64 - 1}", "t", "x")
+        with pytest.raises(LookupError, match=f"lane 3: somebody has used up the IDs of its stream: delete {re.escape(ROWS)}"):
+            asyncio.run(read("3"))
+        assert asyncio.run(read("4")) == READ
+        assert ask(port, "DEL", ROWS) == "1" and asyncio.run(read("3")) == READ
+        ran = subprocess.run([*NORILADLE, "till", "--redis", cluster.address, "1"], input=EAN13, capture_output=True, text=True, timeout=30)
+        assert ran.returncode == 1 and "noriladle till: WRONGTYPE" in ran.stderr
+
+
+@pytest.mark.limit(60)
+def test_consumers_that_do_nothing_are_removed():
+    """Names of machines that come and go do not stay for ever; what one of them had read is answered first."""
+    with Cluster(nodes=1) as cluster:
+        port = cluster.ports[0]
+        ask(port, "XADD", ROWS, "*", "s", "e", "n", "0", "t", EAN13)
+        ask(port, "XGROUP", "CREATE", ROWS, "workers", "0")
+        ask(port, "XREADGROUP", "GROUP", "workers", "gone", "STREAMS", ROWS, ">")
+        ask(port, "XGROUP", "CREATECONSUMER", ROWS, "workers", "idle")
+        keys.DAY, before = 2000, keys.DAY
+        try:
+            async def test():
+                shop = Shop(cluster.address)
+
+                async def answer(texts):
+                    return [READ] * len(texts)
+
+                await asyncio.sleep(2.5)
+                await shop.ask(ROWS, "XGROUP", "CREATECONSUMER", ROWS, "workers", "fresh")
+                one = Worker(shop, "one", answer)
+                running = asyncio.ensure_future(one.run())
+                await asyncio.sleep(2)
+                told = await shop.ask(ROWS, "XINFO", "CONSUMERS", ROWS, "workers")
+                one.stopping = True
+                await running
+                await shop.close()
+                return {it[1] for it in told}
+
+            assert asyncio.run(test()) == {"gone", "fresh", "one"}
+            assert asyncio.run(entries(cluster.address, ROWS)) == []
+        finally:
+            keys.DAY = before
 
 
 def test_noise():
     """1 MB of noise, 10 MB without an end, a value of 10 MB, and half a command: no row comes of it."""
-    head = b"*5\r\n$4\r\nXADD\r\n$%d\r\n%s\r\n$1\r\n*\r\n$6\r\nwidths\r\n" % (len(ROWS), ROWS.encode())
+    head = b"*5\r\n$4\r\nXADD\r\n$%d\r\n%s\r\n$1\r\n*\r\n$1\r\nt\r\n" % (len(ROWS), ROWS.encode())
     with Cluster() as cluster, Workers(cluster.address, 1):
         assert asyncio.run(read_lane(cluster.address, "3", [EAN13])) == [READ]
-        before = asyncio.run(streams(cluster.address, ["3"]))
+        before = asyncio.run(entries(cluster.address, ANSWERS))
         long, half = head + b"$10000000\r\n" + b"1" * 10_000_000, head + b"$300\r\n1 1 1"
         for data in (noise(1_000_000), b"x" * 10_000_000, long, half):
             for port in cluster.ports:
@@ -158,7 +298,7 @@ def test_noise():
                         client.sendall(data)
                     except OSError:
                         pass
-        assert asyncio.run(streams(cluster.address, ["3"])) == before
+        assert asyncio.run(entries(cluster.address, ANSWERS)) == before and asyncio.run(entries(cluster.address, ROWS)) == []
         assert asyncio.run(read_lane(cluster.address, "3", [EAN13])) == [READ]
 
 
@@ -186,52 +326,23 @@ def test_full_memory():
             time.sleep(2)
             limit(0)
 
-        limit(3_500_000)
+        limit(1)
         thread = when(lambda: any("errorstat_OOM" in ask(port, "INFO", "errorstats") for port in cluster.ports), free)
-        got, again = asyncio.run(read_lanes(cluster.address, asked))
+        got, tills = asyncio.run(read_lanes(cluster.address, asked))
         thread.join()
-        check(cluster.address, wanted, got)
-        print(f"rows submitted again {again} times")
-        assert again
+        assert got == wanted
+        print(f"rows submitted again {sum(till.repeated for till in tills)}")
 
 
 def test_little_memory_for_long():
-    """With `keep` 40,000 rows go through nodes of 4 MB: they are 7 MB, and their answers."""
+    """40,000 rows go through nodes of 4 MB: they are 7 MB, and their answers."""
     asked, wanted = rows_of(40_000)
     with Cluster() as cluster, Workers(cluster.address, 2):
         for port in cluster.ports:
             ask(port, "CONFIG", "SET", "maxmemory", 4_000_000)
-        got, _ = asyncio.run(read_lanes(cluster.address, asked, keep=500, most=256))
+        got, _ = asyncio.run(read_lanes(cluster.address, asked, most=256))
         assert got == wanted
-        said, names = asyncio.run(streams(cluster.address, LANES))
-        assert all(len(names[lane]) < 1500 and len(said[lane]) < 1500 for lane in LANES)
-
-
-def test_what_has_no_answer_stays():
-    """With `keep` the till takes out rows that it has read, and those it has submitted stay."""
-    with Cluster(nodes=1) as cluster:
-        async def test():
-            shop = Shop(cluster.address)
-
-            async def answer_half():
-                while await shop.last(ROWS) != "1-599":
-                    await asyncio.sleep(0.05)
-                of = keys.mark(EAN13)
-                await shop.append(keys.answers("3"), "answer", [(f"1-{number}", READ, of) for number in range(300)])
-
-            answering = asyncio.create_task(answer_half())
-            till = Till(shop, "3", keep=0)
-            till.series = 1
-            async for number, _ in till.read_all([EAN13] * 600):
-                if number == 299:
-                    break
-            await answering
-            await shop.close()
-
-        asyncio.run(test())
-        said, names = asyncio.run(streams(cluster.address, ["3"]))
-        assert names["3"] == [f"1-{number}" for number in range(256, 600)]
-        assert [name for name, _ in said["3"]] == names["3"][:44]
+        nothing_left(cluster.address, LANES)
 
 
 @pytest.fixture
@@ -268,10 +379,10 @@ def test_full_disk(small_disk, fsync):
                 cluster.start(port)
 
         thread = when(is_full, free)
-        got, again = asyncio.run(read_lanes(cluster.address, asked))
+        got, tills = asyncio.run(read_lanes(cluster.address, asked))
         thread.join()
-        check(cluster.address, wanted, got)
-        print(f"{fsync}: the node {seen[0]}; rows submitted again {again} times")
+        assert got == wanted
+        print(f"{fsync}: the node {seen[0]}; rows submitted again {sum(till.repeated for till in tills)}")
         assert seen == [{"always": "ended", "everysec": "refused"}[fsync]]
 
 
@@ -292,11 +403,10 @@ int fdatasync(int file) {
 
 @pytest.mark.limit(240)
 def test_a_slow_disk(tmp_path):
-    """What was taken for lost is written all the same, and submitted again; the node keeps each row and answer once."""
+    """What was taken for lost is written all the same, and submitted again; the till gives each answer once."""
     asked, wanted = rows_of(8_000)
     with Preloaded(tmp_path, SLOW) as cluster, Workers(cluster.address, 2) as workers:
-        got, again = asyncio.run(read_lanes(cluster.address, asked, most=64))
-        check(cluster.address, wanted, got)
+        got, tills = asyncio.run(read_lanes(cluster.address, asked, most=64))
+        assert got == wanted
         workers.end()
-        print(f"rows submitted again {again} times")
-        assert again
+        print(f"rows submitted again {sum(till.repeated for till in tills)}")

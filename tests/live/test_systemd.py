@@ -196,7 +196,7 @@ def test_a_worker(container):
                           stdout=subprocess.DEVNULL) as node:
         try:
             # The container has the network of the machine.
-            (container.root / "etc/noriladle/worker.toml").write_text(f'redis = ["127.0.0.1:{port}"]\nlane = ["north.0"]\n')
+            (container.root / "etc/noriladle/worker.toml").write_text(f'redis = ["127.0.0.1:{port}"]\n')
             (container.root / "etc/noriladle/worker.secret").write_text("REDIS_PASSWORD=open\n")
             assert container.run("systemctl", "start", "noriladle-worker@1").returncode == 0
             words = ["env", "REDIS_PASSWORD=open", "noriladle", "till", "--redis", f"127.0.0.1:{port}", "north.0", "--patience", "20"]

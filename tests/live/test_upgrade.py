@@ -1,6 +1,5 @@
 """An earlier version beside this one, as they are while a shop is upgraded at work: workers and tills over Redis, gateways and scanners. Needs
 the history of the repository, from which the earlier one is taken; without it these are skipped."""
-import asyncio
 import os
 import shutil
 import signal
@@ -11,8 +10,8 @@ from pathlib import Path
 
 import pytest
 
-from workers_and_tills import LANES, NORILADLE, Shop, Workers, check, rows_of
-from redis_cluster import Cluster
+from workers_and_tills import LANES, NORILADLE, Workers, rows_of
+from redis_cluster import Cluster, ask
 from gateway_and_scanners import Gateway, Serial, Till
 from program_and_rows import ROOT
 
@@ -67,37 +66,34 @@ class Feed(threading.Thread):
 
 
 @pytest.mark.limit(150)
-def test_workers_are_upgraded_one_after_the_other(old):
-    """And taken back again, while tills of both versions are at work."""
+def test_workers_and_tills_are_upgraded(old):
+    """Workers of both versions beside each other on one Redis, and tills one after the other, as docs/REDIS.md says: each till gets its
+    answers, and in the end the keys of the earlier version can go."""
     asked, wanted = rows_of(8_000)
-    with Cluster() as cluster:
-        workers = Workers(cluster.address, 2, milliseconds=1000)
-        versions = {"old": [*old, *workers.words[len(NORILADLE):]], "new": workers.words}
-        workers.words = versions["old"]
-
-        def exchange(name, version):
-            process = workers.running.pop(name)
-            process.send_signal(signal.SIGTERM)
-            assert process.wait(20) == 0
-            workers.words = versions[version]
-            workers.start(name)
-
-        async def share():
-            shop = Shop(cluster.address)
-            await workers.share(shop)
-            await shop.close()
-
-        with workers:
-            feeds = {lane: Feed(old if int(lane) % 2 else NORILADLE, cluster.address, lane, asked[lane]) for lane in LANES}
-            for name, version in [("worker0", "new"), ("worker1", "new"), ("worker0", "old")]:
-                asyncio.run(share())
-                time.sleep(2)
-                exchange(name, version)
-            asyncio.run(share())
-            assert all(feed.is_alive() for feed in feeds.values()), "the rows ended before the last exchange"
-            got = {lane: feed.answers() for lane, feed in feeds.items()}
-            check(cluster.address, wanted, got)
-            workers.end()
+    with Cluster() as cluster, Workers(cluster.address, 2) as workers:
+        earlier = subprocess.Popen([*old, "worker", "--redis", cluster.address, "--name", "old", "--year", "2026", *LANES], stderr=subprocess.DEVNULL)
+        try:
+            half = {lane: asked[lane][:len(asked[lane]) // 2] for lane in LANES}
+            first = {lane: Feed(old, cluster.address, lane, half[lane]) for lane in LANES}
+            got = {}
+            for lane in LANES:
+                got[lane] = first[lane].answers()
+                assert got[lane] == wanted[lane][:len(half[lane])]
+                first[lane] = Feed(NORILADLE, cluster.address, lane, asked[lane][len(half[lane]):])
+            more = {lane: [answer for _, answer in first[lane].answers()] for lane in LANES}
+            assert more == {lane: [answer for _, answer in wanted[lane][len(half[lane]):]] for lane in LANES}
+        finally:
+            earlier.send_signal(signal.SIGTERM)
+            assert earlier.wait(20) == 0
+        said = [workers.kill(name) for name in workers.names]
+        assert all("is a lane of version 1.1, which no worker of this version answers" in it for it in said)
+        for port in cluster.ports:
+            for key in ask(port, "KEYS", "shop:*").split():
+                ask(port, "DEL", key)
+        workers.start("worker0")
+        feed = Feed(NORILADLE, cluster.address, "0", asked["0"][:10])
+        assert [answer for _, answer in feed.answers()] == [answer for _, answer in wanted["0"][:10]]
+        assert "version 1.1" not in workers.kill("worker0")
 
 
 @pytest.mark.limit(90)

@@ -3,22 +3,18 @@ import asyncio
 import signal
 import subprocess
 import sys
-import time
 
 from noriladle import streams as keys
 from noriladle.streams import Till, Worker  # noqa: F401
 from program_and_rows import SEED, random_lanes
 
 NORILADLE = [sys.executable, "-m", "noriladle"]
-
+LANES = [str(lane) for lane in range(8)]
 
 
 def Shop(address, user=None, password=None):
-    """The streams at the address of a node, or at several."""
+    """The lanes at the address of a node, or at several."""
     return keys.Shop([address] if isinstance(address, str) else address, user, password)
-
-
-LANES = [str(lane) for lane in range(8)]
 
 
 def rows_of(count, seed=SEED, lanes=len(LANES)):
@@ -29,12 +25,12 @@ def rows_of(count, seed=SEED, lanes=len(LANES)):
 
 
 class Workers:
-    """Processes of `noriladle worker` that have the same lanes, by name."""
+    """Processes of `noriladle worker`, by name."""
 
-    def __init__(self, address, count, milliseconds=3000, more=()):
+    def __init__(self, address, count, more=()):
         # One address, or several with commas between them.
         self.words = [*NORILADLE, "worker", *(word for one in address.split(",") for word in ("--redis", one))]
-        self.more = [*LANES, "--year", "2026", "--lease", str(milliseconds), "--log", "all", *more]
+        self.more = ["--year", "2026", "--log", "all", *more]
         self.names = [f"worker{number}" for number in range(count)]
         self.running = {}
 
@@ -65,17 +61,9 @@ class Workers:
         self.running = {}
         return [lines.rpartition("\n")[2] for lines in said]
 
-    async def share(self, shop):
-        """Waits until each has a lane."""
-        while True:
-            holders = [await (await shop.node(keys.lease(lane))).ask("GET", keys.lease(lane)) for lane in LANES]
-            if set(holders) == set(self.running):
-                return holders
-            await asyncio.sleep(0.1)
-
 
 async def read_lanes(address, asked, **more):
-    """What a till of each lane gets, all lanes at once, and how often they submitted rows again."""
+    """What a till of each lane gets, all lanes at once, and the tills."""
     shop = Shop(address)
     tills = {lane: Till(shop, lane, **more) for lane in asked}
 
@@ -84,7 +72,7 @@ async def read_lanes(address, asked, **more):
 
     got = dict(await asyncio.gather(*map(one, asked)))
     await shop.close()
-    return got, sum(till.repeated for till in tills.values())
+    return got, list(tills.values())
 
 
 async def read_lane(address, lane, texts, **more):
@@ -93,33 +81,15 @@ async def read_lane(address, lane, texts, **more):
     return [answer for _, answer in got[lane]]
 
 
-async def streams(address, lanes):
-    """The IDs and answers in the streams of answers, and the IDs in those of rows. Asks a silent node for half a minute."""
-    shop, said, names = Shop(address), {}, {}
-
-    async def entries(key):
-        until = time.monotonic() + 30
-        while True:
-            try:
-                return await (await shop.node(key)).ask("XRANGE", key, "-", "+")
-            except OSError as silence:
-                if time.monotonic() > until:
-                    raise
-                await shop.rest(silence)
-
-    for lane in lanes:
-        said[lane] = [(name, dict(zip(fields[::2], fields[1::2]))["answer"]) for name, fields in await entries(keys.answers(lane))]
-        names[lane] = [name for name, _ in await entries(keys.rows(lane))]
+async def entries(address, stream):
+    """The entries of a stream, each with its ID and its fields."""
+    shop = Shop(address)
+    found = await shop.ask(stream, "XRANGE", stream, "-", "+")
     await shop.close()
-    return said, names
+    return [(name, dict(zip(words[::2], words[1::2]))) for name, words in found]
 
 
-def check(address, wanted, got):
-    """Checks that each till, and each stream, has the answers to its rows, in order and each once."""
-    assert {lane: len(answers) for lane, answers in got.items()} == {lane: len(wanted[lane]) for lane in wanted}
-    assert got == wanted
-    said, names = asyncio.run(streams(address, wanted))
-    for lane in wanted:
-        series = said[lane][0][0].partition("-")[0]
-        assert said[lane] == [(f"{series}-{number}", answer) for number, answer in wanted[lane]]
-        assert names[lane] == [name for name, _ in said[lane]]
+def nothing_left(address, lanes):
+    """Checks that no row of these lanes is left in Redis without an answer."""
+    for lane in lanes:
+        assert asyncio.run(entries(address, keys.rows(lane))) == []

@@ -1,7 +1,7 @@
 """Submit rows to Redis, and print their answers
 
 Each line of standard input is a row or the text of a scanner; each line of output is its number, from 0, and its answer.
-A lane has one till. The password of Redis is in the environment's REDIS_PASSWORD.
+The password of Redis is in the environment's REDIS_PASSWORD.
 
   $ noriladle till --redis 10.0.0.5:6379 north.0 < rows
 """
@@ -17,15 +17,13 @@ from .._redis import Fault
 from .._service import Log
 from ..streams import NoAnswer, Till
 from . import REFUSED, RIGHT, tell
-from .worker import add_redis, shop_of
+from .worker import add_redis, lane, shop_of
 
 
 def add_arguments(parser: argparse.ArgumentParser) -> None:
     """Adds the arguments of ``noriladle till``."""
-    parser.add_argument("lane", metavar="LANE", help="Lane of the till, a word such as north.3")
+    parser.add_argument("lane", type=lane, metavar="LANE", help="Lane of the till, a word such as north.3")
     add_redis(parser)
-    parser.add_argument("--keep", type=_service.count(0, 10**9), metavar="N",
-                        help="Keep about this many rows in the streams after they are read [default: all]")
     parser.add_argument("--patience", type=_service.seconds, metavar="SECONDS",
                         help="Exit with status 1 if no answer comes for this long [default: wait]")
 
@@ -42,8 +40,9 @@ def run(words: argparse.Namespace) -> int:
 
 async def _run(words: argparse.Namespace) -> int:
     """Submits the rows that are there and waits for their answers, turn by turn, so no answer waits for a later row."""
-    shop = shop_of(words, Log())
-    till = Till(shop, words.lane, keep=words.keep, patience=words.patience, note=Log().fault)
+    log = Log()
+    shop = shop_of(words, log)
+    till = Till(shop, words.lane, patience=words.patience, note=log.fault)
     for lines in turns():
         async for number, answer in till.read_all(line for line in lines if line):
             print(number, answer, flush=True)

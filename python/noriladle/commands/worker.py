@@ -1,10 +1,10 @@
-"""Answer the rows of lanes that tills submit to Redis
+"""Answer the rows that tills submit to Redis
 
-Any number of workers may have the same lanes, at most 16 each: they share them, and take over those of one that ends. A
-till is noriladle till, or a program with noriladle.streams. docs/REDIS.md says what is promised and what Redis must
-keep, and docs/OPERATIONS.md how to run it. The password of Redis is in the environment's REDIS_PASSWORD.
+Any number of workers share the rows of all lanes, and one takes over what another has read and not answered. A till is
+noriladle till, or a program with noriladle.streams. docs/REDIS.md says what is promised and what Redis must keep, and
+docs/OPERATIONS.md how to run it. The password of Redis is in the environment's REDIS_PASSWORD.
 
-  $ noriladle worker --redis 10.0.0.5:6379 --name one north.0 north.1
+  $ noriladle worker --redis 10.0.0.5:6379 --name one
 """
 from __future__ import annotations
 
@@ -15,30 +15,31 @@ import re
 import signal
 import socket
 import ssl
-import time
-from typing import Dict, List, Optional
+from typing import List, Optional, Sequence
 
 from .. import _service
-from .._service import Log, Metrics, notify
+from .._health import Health, Metrics, serve
+from .._lanes import Watch
+from .._log import take_libraries
+from .._service import Log, notify
 from ..live import Hub, HubEnded
-from ..streams import Shop, Spent, Worker
+from ..streams import Shop, Worker, answers, rows
 from . import REFUSED, RIGHT, WrongWords, add_ais, add_year
 
-_RIGHTS = (
-    "ACL SETUSER worker on >SECRET +cluster|slots +time +multi +exec (+xread %R~shop:*:rows) (+xinfo|stream %R~shop:*:answers) "
-    "(+xadd %W~shop:*:answers) (+eval +get +set +pttl %RW~shop:*:lease) (+eval_ro +xrange %R~shop:*:rows) "
-    "(+zadd +zrem +zremrangebyscore +zcard %RW~shop:workers:*)",
-    "ACL SETUSER till.LANE on >SECRET +cluster|slots +multi +exec (+eval_ro +xinfo|stream %R~shop:{LANE}:rows) "
-    "(+xadd +xtrim %W~shop:{LANE}:rows) (+xread %R~shop:{LANE}:answers) (+xtrim %W~shop:{LANE}:answers)",
-    "ACL SETUSER default off",
-)
-"""The access control lists, in the order in which a node must apply them: the last one cuts off clients without a name."""
+_RIGHTS = """user default off
+user admin on #HASH ~* &* +@all
+user replica on #HASH +psync +replconf +ping
+user sentinel on #HASH &* +multi +slaveof +ping +exec +subscribe +config|rewrite +role +publish +info +client|setname +client|kill +script|kill
+user worker on #HASH resetchannels ~nl:* +ping +cluster|slots +scan +time +multi +exec +memory|usage +xadd +xlen +xrange +xrevrange +xread \
++xtrim +xack +xdel +xreadgroup +xautoclaim +xgroup|create +xgroup|setid +xgroup|delconsumer +xinfo|groups +xinfo|consumers"""
+_RIGHTS_OF_A_TILL = "user till.{lane} on #HASH resetchannels +ping +cluster|slots (+xadd +xrange ~{rows}) (+xread +xrevrange +xtrim ~{answers})"
 
 
 def add_redis(parser: argparse.ArgumentParser) -> None:
     """Adds the options that say where Redis is."""
     parser.add_argument("--redis", action="append", default=[], metavar="HOST:PORT",
-                        help="A node of a Redis Cluster, or a single Redis; name several in case one is down")
+                        help="A node of a Redis Cluster, a Sentinel, or a single Redis; name several in case one is down")
+    parser.add_argument("--master", default="lanes", metavar="NAME", help="Name of the master at the Sentinels [default: lanes]")
     parser.add_argument("--user", metavar="NAME", help="User of Redis, whose password is in REDIS_PASSWORD [default: REDIS_USER]")
     parser.add_argument("--tls", action="store_true", help="Speak TLS to Redis")
     parser.add_argument("--ca", metavar="FILE", help="Certificates of the authorities to trust for Redis [default: those of the system]")
@@ -46,12 +47,22 @@ def add_redis(parser: argparse.ArgumentParser) -> None:
     parser.add_argument("--key", metavar="FILE", help="Key of this client, for TLS")
 
 
+def lane(word: str) -> str:
+    """The name of a lane."""
+    try:
+        rows(word)
+    except ValueError as fault:
+        raise argparse.ArgumentTypeError(str(fault)) from fault
+    return word
+
+
 def shop_of(words: argparse.Namespace, log: Log) -> Shop:
     """The Redis that the arguments name.
 
     :raises WrongWords: they name none, or name a file that cannot be read.
     """
-    if not words.redis or not all(re.fullmatch(r"\S+:\d{1,5}", address) for address in words.redis):
+    ports = [re.fullmatch(r"\S+:(\d{1,5})", address) for address in words.redis]
+    if not ports or not all(port and int(port[1]) < 65_536 for port in ports):
         raise WrongWords("name a node of Redis: --redis HOST:PORT")
     tls: Optional[ssl.SSLContext] = None
     if words.tls:
@@ -64,19 +75,15 @@ def shop_of(words: argparse.Namespace, log: Log) -> Shop:
     elif words.ca or words.cert or words.key:
         raise WrongWords("--ca, --cert and --key are of TLS: add --tls")
     user, password = words.user or os.environ.get("REDIS_USER"), os.environ.get("REDIS_PASSWORD")
-    return Shop(words.redis, user, password, tls, note=log.fault)
+    return Shop(words.redis, user, password, tls, log.fault, words.master)
 
 
 def add_arguments(parser: argparse.ArgumentParser) -> None:
     """Adds the arguments of ``noriladle worker``."""
-    parser.add_argument("lanes", nargs="*", default=[], metavar="LANE", help="Lanes, words such as north.3, at most 16")
-    parser.add_argument("--lane", action="append", default=[], metavar="LANE", help="One more lane; in an option file a list")
     add_redis(parser)
     parser.add_argument("--name", default=socket.gethostname(), metavar="NAME", help="The worker's own name [default: the machine's name]")
     parser.add_argument("--workers", type=_service.count(1, 16), default=2, metavar="N", help="Workers of the hub, 1 to 16 [default: 2]")
-    parser.add_argument("--lease", type=_service.count(100, 60_000), default=3000, metavar="MILLISECONDS",
-                        help="How long a lane stays with a worker that has died [default: 3000]")
-    parser.add_argument("--acl", action="store_true", help="Print Redis's access control lists for these lanes, and exit")
+    parser.add_argument("--acl", nargs="+", type=lane, metavar="LANE", help="Print an ACL file of Redis for workers and these tills, and exit")
     add_year(parser)
     add_ais(parser)
     _service.add_arguments(parser)
@@ -84,100 +91,74 @@ def add_arguments(parser: argparse.ArgumentParser) -> None:
 
 def run(words: argparse.Namespace) -> int:
     """Works until it is told to stop, or its hub ends."""
-    lanes = sorted({*words.lanes, *words.lane})
-    if not 1 <= len(lanes) <= 16:
-        raise WrongWords("name 1 to 16 lanes")
     if words.acl:
-        print("\n".join(rights(lanes)))
+        tills = [_RIGHTS_OF_A_TILL.format(lane=it, rows=rows(it), answers=answers(it)) for it in words.acl]
+        print("\n".join([_RIGHTS, *tills]))
         return RIGHT
-    log = Log(words.log, words.json)
     _service.keep_buffers()
-    return asyncio.run(_Work(words, lanes, log).run())
-
-
-def rights(lanes: List[str]) -> List[str]:
-    """The access control lists for the workers and for the till of each lane, as commands for each node."""
-    worker, till, default = _RIGHTS
-    return [worker, *(till.replace("LANE", lane) for lane in lanes), default]
+    log = Log(words.log, words.json)
+    take_libraries(log)
+    return asyncio.run(_Work(words, log).run())
 
 
 class _Work:
     """A running worker, and what an operator sees of it."""
 
-    def __init__(self, words: argparse.Namespace, lanes: List[str], log: Log) -> None:
-        self._words, self._lanes, self._log = words, lanes, log
-        self._metrics = Metrics()
-        self._worker: Optional[Worker] = None
-        self._is_stopping = False
-        self._shop = shop_of(words, log)
-        of = self._metrics
-        of.counter("noriladle_answers_total", "Rows that were answered, by lane.")
-        of.counter("noriladle_refusals_total", "Rows that were refused, by the number of the refusal.")
-        of.counter("noriladle_hubs_total", "Hubs that were begun.")
-        of.gauge("noriladle_leases", "Lanes that this worker holds.", lambda: len(self._held()))
-        of.gauge("noriladle_under_way", "Lanes with rows that were read and have no answer yet.", lambda: len(self._began()))
-        of.gauge("noriladle_oldest_seconds", "How long the oldest of these has waited.",
-                 lambda: time.monotonic() - min(self._began().values(), default=time.monotonic()))
-        of.gauge("noriladle_written_by_another", "Answers that another worker had written before.",
-                 lambda: self._worker.refused if self._worker else 0)
-
-    def _held(self) -> Dict[str, "asyncio.Task[None]"]:
-        return self._worker.held if self._worker else {}
-
-    def _began(self) -> Dict[str, float]:
-        return self._worker.began if self._worker else {}
+    def __init__(self, words: argparse.Namespace, log: Log) -> None:
+        self._words, self._log, self._shop = words, log, shop_of(words, log)
+        self._hub = Hub(1, words.workers, words.year, ais=words.ais)
+        self._worker = Worker(self._shop, words.name, self._answer, self._seen, log.fault)
+        self._metrics = of = Metrics()
+        self._watch = Watch(self._shop, of)
+        self._answers = of.counter("noriladle_answers_total", "Rows that were answered, by lane.", "lane")
+        self._refusals = of.counter("noriladle_refusals_total", "Rows that were refused, by the number of the refusal.", "number")
+        of.count_of("noriladle_rows_dropped_total", "Entries that the worker has removed because they were too long, or for want of room.",
+                    lambda: self._worker.dropped)
 
     async def run(self) -> int:
-        """Works until it is told to stop. If a lane of the hub has used all its numbers, starts a new hub."""
-        loop = asyncio.get_running_loop()
+        """Works until it is told to stop."""
         for number in (signal.SIGTERM, signal.SIGINT):
-            loop.add_signal_handler(number, self._stop)
-        servers = []
-        if self._words.metrics is not None:
-            servers.append(await _service.serve_health(self._words.metrics, self._why_not_ready, self._metrics))
-        alive = asyncio.ensure_future(_service.keep_alive(self._is_well))
+            asyncio.get_running_loop().add_signal_handler(number, self._stop)
+        beside: List[asyncio.Future[None]] = []
         try:
-            while not self._is_stopping:
-                await self._work()
+            async with self._hub:
+                beside.append(asyncio.ensure_future(_service.keep_alive(lambda: self._hub.lane(0).read(""))))
+                if self._words.metrics is not None:
+                    beside += await self._serve_metrics(self._words.metrics)
+                notify("READY=1")
+                await self._worker.run()
+            of = self._worker
+            self._log.note("stopped", worker=of.name, answers=of.given, claimed=of.claimed, dropped=of.dropped)
             return RIGHT
         except HubEnded as fault:
             self._log.fault(str(fault))
             return REFUSED
         finally:
             notify("STOPPING=1")
-            alive.cancel()
-            for server in servers:
-                server.close()
+            for it in beside:
+                it.cancel()
             await self._shop.close()
 
-    async def _work(self) -> None:
-        words = self._words
-        async with Hub(lanes=len(self._lanes), workers=words.workers, year=words.year, ais=words.ais) as hub:
-            self._metrics.add("noriladle_hubs_total")
-            worker = Worker(self._shop, words.name, self._lanes, hub, words.lease, self._seen,
-                            lambda what, lane: self._log.note(what, lane=lane, worker=words.name))
-            self._worker = worker
-            notify("READY=1")
-            try:
-                await worker.run()
-            except Spent as fault:
-                self._log.fault(f"{fault}; a new one is begun")
-                return
-            self._log.note("stopped", worker=words.name, answers=worker.given, written_by_another=worker.refused)
+    async def _serve_metrics(self, port: int) -> List[asyncio.Future[None]]:
+        """Serves health and numbers. A port that is taken does not stop the worker."""
+        health = Health(self._watch.trip, self._metrics)
+        try:
+            await serve(port, health, self._metrics, self._log.fault)
+        except OSError as fault:
+            self._log.fault(f"no metrics: {fault.strerror or fault}")
+        return [asyncio.ensure_future(health.keep()), asyncio.ensure_future(self._watch.keep())]
 
     def _stop(self) -> None:
-        self._is_stopping = True
-        if self._worker:
-            self._worker.stop()
+        self._worker.stopping = True
 
-    async def _is_well(self) -> None:
-        if self._worker:
-            await self._worker.hub.lane(0).read("")
+    async def _answer(self, texts: Sequence[str]) -> List[str]:
+        said = [str(reply.answer) async for reply in self._hub.lane(0).read_all(texts, len(texts))]
+        if any(it.startswith("refused 35 ") for it in said):
+            raise HubEnded("the hub has used all numbers of its lane; start the worker again")
+        return said
 
-    def _why_not_ready(self) -> str:
-        return "the worker stops" if self._is_stopping else "no lane is held" if not self._held() else ""
-
-    def _seen(self, lane: str, answer: str) -> None:
-        self._metrics.add("noriladle_answers_total", f'lane="{lane}"')
-        if answer.startswith("refused "):
-            self._metrics.add("noriladle_refusals_total", f'number="{answer.split()[1]}"')
+    def _seen(self, lane: str, said: List[str]) -> None:
+        self._answers.add(lane, by=len(said))
+        for it in said:
+            if it.startswith("refused "):
+                self._refusals.add(it.split()[1])
