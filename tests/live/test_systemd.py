@@ -16,7 +16,7 @@ from gateway_and_scanners import ROW
 from program_and_rows import PROGRAM, READ, ROOT
 
 LIMIT = 900
-NEEDED = "systemd,systemd-sysv,dbus,python3,udev,procps,python3-hiredis"
+NEEDED = "systemd,systemd-sysv,dbus,python3,udev,procps,python3-hiredis,python3-prometheus-client,openssl"
 
 
 def install(root):
@@ -143,6 +143,60 @@ def test_the_gateway(container):
     begin = time.monotonic()
     assert container.run("systemctl", "stop", unit).returncode == 0 and time.monotonic() - begin < 8
     assert container.shown(unit, "Result") == "success" and not container.run("pgrep", "gs1_hub").stdout
+
+
+SPEAK = "import socket,ssl; it=ssl._create_unverified_context().wrap_socket(socket.create_connection(('127.0.0.1', 4710), 5)); " \
+        "it.sendall(b']E09501101530003\\n'); print(it.makefile().readline(), end=''); import hashlib; print(hashlib.sha256(it.getpeercert(True)).hexdigest())"
+
+
+def test_a_renewed_certificate(container):
+    """As docs/OPERATIONS.md says: the service reads the key by its group, a pair that is not whole changes nothing, and a reload takes the new one."""
+    unit, folder = "noriladle-gateway", container.root / "etc/noriladle"
+    before = (folder / "gateway.toml").read_text()
+    (folder / "gateway.toml").write_text(before + 'port = 4710\ncert = "/etc/noriladle/gateway.pem"\nkey = "/etc/noriladle/gateway.key"\n')
+
+    def make(name):
+        made = container.run("openssl", "req", "-x509", "-newkey", "rsa:2048", "-nodes", "-keyout", f"/etc/noriladle/{name}.key", "-out",
+                             f"/etc/noriladle/{name}.pem", "-days", "30", "-subj", "/CN=localhost")
+        assert made.returncode == 0, made.stderr
+
+    def put(*words):
+        assert container.run("install", *words).returncode == 0
+
+    def seen():
+        ran = container.run("python3", "-c", SPEAK)
+        assert ran.stdout.startswith(f"- {READ}\n"), ran.stdout + ran.stderr
+        return ran.stdout.splitlines()[1]
+
+    for name in ("old", "new"):
+        make(name)
+    put("-m", "644", "/etc/noriladle/old.pem", "/etc/noriladle/gateway.pem")
+    put("-m", "640", "-g", "noriladle-key", "/etc/noriladle/old.key", "/etc/noriladle/gateway.key")
+    assert container.run("systemctl", "start", unit).returncode == 0, container.run("journalctl", "-u", unit, "--no-pager").stdout[-2000:]
+    first = seen()
+    put("-m", "644", "/etc/noriladle/new.pem", "/etc/noriladle/gateway.pem")
+    assert container.run("systemctl", "reload", unit).returncode == 0
+    time.sleep(1)
+    assert seen() == first
+    put("-m", "640", "-g", "noriladle-key", "/etc/noriladle/new.key", "/etc/noriladle/gateway.key")
+    assert container.run("systemctl", "reload", unit).returncode == 0
+    time.sleep(1)
+    assert seen() != first
+    (folder / "gateway.toml").write_text(before)
+    container.run("systemctl", "stop", unit)
+
+
+def test_the_journal_of_scans(container):
+    """The service may write it, and nothing else."""
+    unit, file = "noriladle-gateway", container.root / "etc/noriladle/gateway.toml"
+    before = file.read_text()
+    file.write_text(before + 'journal = "/var/lib/noriladle/journal"\n')
+    assert container.run("systemctl", "start", unit).returncode == 0, container.run("journalctl", "-u", unit, "--no-pager").stdout[-2000:]
+    assert ask(container) == f"0 {READ}\n"
+    ran = container.run("noriladle", "journal", "/var/lib/noriladle/journal")
+    assert ran.returncode == 0 and READ in ran.stdout and ran.stderr == "1 records in 1 files, 0 faults\n"
+    file.write_text(before)
+    container.run("systemctl", "stop", unit)
 
 
 def test_rights(container):
