@@ -11,17 +11,18 @@ from typing import Any, Dict
 
 
 @lru_cache(maxsize=None)
-def _file(name: str) -> Dict[str, Any]:
+def file_of(name: str) -> Dict[str, Any]:
+    """A file of shop/ without its end .json."""
     told: Dict[str, Any] = json.loads((Path(__file__).with_name("shop") / f"{name}.json").read_text("utf-8"))
     return told
 
 
 def shared(name: str) -> Any:
     """A part of shop/shop.json."""
-    return _file("shop")[name]
+    return file_of("shop")[name]
 
 
 def said(fault: object, *values: object) -> str:
     """The text of an error, by its name or number, with these values in it."""
-    told: str = _file("en")["faults"][str(fault)]
+    told: str = file_of("en")["faults"][str(fault)]
     return told.format(*values)
