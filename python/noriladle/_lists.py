@@ -15,12 +15,7 @@ WHOLE_LINES = "\x1f"
 """The delimiter of a list with one cell a line: a character that no text has."""
 
 _MOST_CELL = 1_000_000
-_DELIMITERS = (WHOLE_LINES, ";", "\t", ",")
-_READ = ": noriladle read takes it"
-_OTHER_FILES = (
-    (b"PK\x03\x04", "spreadsheet", ""), (b"\xd0\xcf\x11\xe0", "spreadsheet", ""), (b"%PDF-", "pdf", _READ),
-    (b"\x89PNG", "picture", _READ), (b"\xff\xd8\xff", "picture", _READ), (b"\x1f\x8b", "packed", ""),
-)
+_DELIMITERS = (WHOLE_LINES, ";", "\t", ",", "|")
 
 
 class Fault(NamedTuple):
@@ -51,27 +46,6 @@ class Sheet(NamedTuple):
     delimiter: str
     records: Sequence[Record]
     faults: Sequence[Fault]
-
-
-def decoded(data: bytes) -> Tuple[str, str]:
-    """The text of a file and its encoding: UTF-8, UTF-16 with its mark, or else Windows-1252.
-
-    :raises Faults: it is too long, or no text.
-    """
-    if len(data) > LIMIT:
-        raise Faults([Fault(1, said("tooLarge", f"{LIMIT:,}"))])
-    for magic, name, way in _OTHER_FILES:
-        if data.startswith(magic):
-            raise Faults([Fault(1, f"{said(name)}{way}")])
-    if data[:2] in (b"\xff\xfe", b"\xfe\xff"):
-        return data.decode("utf-16", "replace"), "utf-16"
-    if b"\0" in data:
-        line = 1 + data[:data.index(b"\0")].count(b"\n")
-        raise Faults([Fault(line, said("noText"))])
-    try:
-        return data.decode("utf-8-sig"), "utf-8-sig"
-    except UnicodeDecodeError:
-        return data.decode("cp1252", "replace"), "cp1252"
 
 
 def sheets_of(text: str) -> List[Sheet]:

@@ -4,7 +4,7 @@ from __future__ import annotations
 import re
 import unicodedata
 from functools import lru_cache
-from typing import Any, Dict, FrozenSet, List, NamedTuple, Optional, Sequence, Tuple
+from typing import Any, Dict, FrozenSet, List, Mapping, NamedTuple, Optional, Sequence, Tuple
 
 from ._shop import file_of
 
@@ -20,9 +20,13 @@ class PriceHeading(NamedTuple):
     reason: str
     """Why they are not those of the shelf, or nothing."""
     points: int
-    """How clearly they are the shop's own, with tax."""
+    """How clearly they are the shop's own, with tax: 0 to 4, or -1 if somebody else recommends them."""
     marks: FrozenSet[str]
     """The currencies and countries that the heading names."""
+    is_cents: bool
+    """Whether they are whole numbers of cents."""
+    is_sure: bool
+    """Whether all words of the heading are known."""
 
 
 def _pattern(words: str) -> str:
@@ -36,8 +40,12 @@ def _any(patterns: Sequence[str]) -> "re.Pattern[str]":
     return re.compile("|".join(map(_pattern, patterns)))
 
 
-_IGNORED, _PRICE, _OWN, _GROSS, _RECOMMENDED, _TAXES, _WITH, _WITHOUT = (
-    _any(_TABLE[name]) for name in ("ignored", "price", "own", "gross", "recommended", "taxes", "with", "without"))
+_IGNORED, _PRICE, _OWN, _GROSS, _RECOMMENDED, _TAXES, _WITH, _WITHOUT, _CENTS = (_any(_TABLE[name]) for name in (
+    "ignored", "price", "own", "gross", "recommended", "taxes", "with", "without", "cents"))
+_SURE = _any([word for name in ("price", "own", "gross", "recommended", "taxes", "with", "cents", "neutral") for word in _TABLE[name]]
+             + [word for words in _TABLE["marks"].values() for word in words])
+CARTON = _any(_TABLE["reasons"]["carton"])
+"""Words of a case, also in headings of numbers."""
 _REASONS = {name: _any(patterns) for name, patterns in _TABLE["reasons"].items()}
 _MARKS = {name: _any(patterns) for name, patterns in _TABLE["marks"].items()}
 
@@ -69,7 +77,8 @@ def price_of(heading: str) -> Optional[PriceHeading]:
     reason = next((name for name, pattern in _REASONS.items() if name == tax or pattern.search(text)), "")
     points = bool(_OWN.search(text)) + bool(_GROSS.search(text)) + 2 * is_taxed
     marks = frozenset(name for name, pattern in _MARKS.items() if pattern.search(text))
-    return PriceHeading(reason, 0 if _RECOMMENDED.search(text) else points, marks)
+    is_sure = not _SURE.sub("", text).strip()
+    return PriceHeading(reason, -1 if _RECOMMENDED.search(text) else points, marks, bool(_CENTS.search(text)), is_sure)
 
 
 def _tax(text: str) -> Tuple[bool, str]:
@@ -81,12 +90,21 @@ def _tax(text: str) -> Tuple[bool, str]:
     return (True, "") if _WITH.search(text) else (False, "tax")
 
 
-def shelf_prices(headings: Sequence[Tuple[int, PriceHeading]]) -> List[int]:
+_DOUBTFUL = frozenset(("unit", "offer", "country", "customer", "quantity", "unclear"))
+"""Reasons that do not keep a column from being the price, if the only other one has unknown words."""
+
+
+def shelf_prices(headings: Mapping[int, PriceHeading]) -> List[int]:
     """The columns, of these with their headings, that may be the price on the shelf: one is the answer, more are a question."""
-    known = [(place, heading) for place, heading in headings if not heading.reason]
-    best = [it for it in known if it[1].points == max(heading.points for _, heading in known)]
-    best = [it for it in best if not it[1].marks] or best
-    others = [it for it in known if it not in best]
-    if len(best) == 1 and all(it[1].marks <= best[0][1].marks for it in others if best[0][1].marks):
-        return [best[0][0]]
-    return [place for place, _ in known]
+    known = {place: heading for place, heading in headings.items() if not heading.reason}
+    # Beside a purchase price the plain one is the shop's own. Without one it may be the purchase price.
+    least = -1 if any(heading.reason == "purchase" for heading in headings.values()) else 0
+    most = max((max(least, heading.points) for heading in known.values()), default=0)
+    best = [place for place, heading in known.items() if max(least, heading.points) == most]
+    best = [place for place in best if not known[place].marks] or best
+    if len(best) != 1:
+        return [*known]
+    chosen = known[best[0]]
+    doubts = [] if chosen.is_sure else [place for place, heading in headings.items() if heading.reason in _DOUBTFUL]
+    others = [heading for place, heading in known.items() if place != best[0] and chosen.marks and not heading.marks <= chosen.marks]
+    return sorted([*known, *doubts]) if others or doubts else best

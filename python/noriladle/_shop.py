@@ -22,7 +22,22 @@ def shared(name: str) -> Any:
     return file_of("shop")[name]
 
 
+_language = "en"
+
+
+def speak(language: str) -> None:
+    """Gives the errors in this language from now on, if shop/ has it."""
+    global _language
+    _language = language if (Path(__file__).with_name("shop") / f"{language}.json").is_file() else "en"
+
+
+def decimal_sign() -> str:
+    """What stands before the decimals of a price, if the list does not show it."""
+    sign: str = file_of(_language)["decimal"]
+    return sign
+
+
 def said(fault: object, *values: object) -> str:
     """The text of an error, by its name or number, with these values in it."""
-    told: str = file_of("en")["faults"][str(fault)]
+    told: str = file_of(_language)["faults"][str(fault)]
     return told.format(*values)

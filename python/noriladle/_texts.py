@@ -36,6 +36,8 @@ def read_text(text: str, year: int, ais: Ais = "all") -> Answer:
     if is_elements(text):
         return read_scan(text if text[0] in "^\x1d" else f"^{text}", year, ais=ais)
     digits = digits_of(text)
+    if digits and not digits.strip("0"):
+        raise Unreadable(said("zerosAlone"))
     # Eight digits that begin with 0 are a GTIN-8 or a UPC-E: the library refuses to guess.
     if len(digits) == 8 and digits[0] == "0" and digits.isascii() and digits.isdecimal():
         return read_scan(digits, year, ais=ais)

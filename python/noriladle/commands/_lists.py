@@ -17,6 +17,12 @@ def add_list(parser: argparse.ArgumentParser) -> None:
                         help=f"Column of the {', '.join(MEANINGS[:-1])} or {MEANINGS[-1]}, by its heading or number")
 
 
+def add_price(parser: argparse.ArgumentParser) -> None:
+    """Adds the options about prices."""
+    parser.add_argument("--no-price", action="store_true", help="Make labels without a price")
+    parser.add_argument("--free", action="store_true", help="Print prices of zero, too")
+
+
 def columns_of(words: argparse.Namespace) -> Dict[str, str]:
     """What the arguments say about the columns.
 
@@ -28,7 +34,13 @@ def columns_of(words: argparse.Namespace) -> Dict[str, str]:
         if meaning not in MEANINGS or not heading:
             raise WrongWords(f"--column {word}: write one of {', '.join(MEANINGS)}, = and a heading, as in "
                              "--column name=Bezeichnung")
+        if columns.get(meaning, heading) != heading:
+            raise WrongWords(f"--column {word}: the {meaning} is already '{columns[meaning]}'")
         columns[meaning] = heading
+    if getattr(words, "no_price", False):
+        if "price" in columns:
+            raise WrongWords("--no-price and --column price do not go together: leave one out")
+        columns["price"] = ""
     return columns
 
 

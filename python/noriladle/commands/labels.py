@@ -16,7 +16,7 @@ from pathlib import Path
 from typing import TYPE_CHECKING, Callable, Dict, List, Sequence, Tuple
 
 from . import REFUSED, RIGHT, Progress, WrongWords, add_year, tell, write_files
-from ._lists import add_list, columns_of, name_of, read_list
+from ._lists import add_list, add_price, columns_of, name_of, read_list
 
 if TYPE_CHECKING:
     from ..labels import Fault, Labels, LabelWarning
@@ -45,6 +45,7 @@ def add_arguments(parser: argparse.ArgumentParser) -> None:
     parser.add_argument("--turn", action="store_true", help="Turn the labels by 90 degrees on their stock")
     parser.add_argument("--currency", default="", metavar="SIGN", help="Sign to put behind prices without one, such as €")
     add_list(parser)
+    add_price(parser)
     parser.add_argument("--font", metavar="TTF", help="TrueType file for the texts [default: Liberation Sans, or what is installed]")
     parser.add_argument("--bold", metavar="TTF", help="TrueType file for names and prices")
     add_year(parser)
@@ -85,9 +86,9 @@ def run(words: argparse.Namespace) -> int:
     progress = Progress()
     try:
         stock, fonts = shop.stock_of(words.stock), shop.fonts_of(words.font, words.bold)
-        prices = shop.read_list(read_list(words), words.year, columns)
-        if prices.note:
-            tell(f"{name}: {prices.note}")
+        prices = shop.read_list(read_list(words), words.year, columns, currency=words.currency, is_free=words.free)
+        for note in prices.notes:
+            tell(f"{name}: {note}")
         made = shop.make(
             prices, stock, words.year, look=look, start=words.start, currency=words.currency, fonts=fonts, shift=words.shift,
             progress=lambda done, of: progress(f"drawing and checking: {100 * done // of} %"))
@@ -103,8 +104,6 @@ def run(words: argparse.Namespace) -> int:
         progress.end()
         raise WrongWords(str(error)) from error
     progress.end()
-    if prices.encoding == "cp1252":
-        tell(f"{name}: warning: this is not UTF-8 and was read as Windows-1252: look at the accents")
     _tell_warnings(name, made.warnings)
     _write(words.output, files)
     pages = "" if form in _FOR_PRINTERS else f" on {_count(made.sheets, 'page')}"

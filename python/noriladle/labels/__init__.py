@@ -19,7 +19,7 @@ from typing import Callable, Dict, Iterator, List, Mapping, NamedTuple, Optional
 from PIL import Image
 
 from .. import Refusal, find
-from .._columns import table_of
+from .._columns import Table, table_of
 from .._lists import Fault, Faults
 from .._shop import said
 from .._texts import remedy_of
@@ -49,9 +49,8 @@ class PriceList(NamedTuple):
 
     articles: Sequence[Article]
     faults: Sequence[Fault] = ()
-    note: str = ""
-    """What each column was taken for, if the headings do not say it."""
-    encoding: str = ""
+    notes: Sequence[str] = ()
+    """What a person should know of how the list was read, and what of it is not printed."""
 
 
 class LabelWarning(NamedTuple):
@@ -144,15 +143,40 @@ def _warning(name: str, found: Sequence[Tuple[Article, Warned]]) -> LabelWarning
     return LabelWarning(tuple(article.line for article, _ in ranked), said(name, *ranked[0][1].own))
 
 
-def read_list(data: bytes, year: int, columns: Optional[Mapping[str, str]] = None) -> PriceList:
-    """The articles of a CSV file, and the errors of its other lines. ``columns`` names your own headings, such as
-    ``{"name": "Ware"}``, or columns by their numbers from 1.
+def read_list(
+    data: bytes, year: int, columns: Optional[Mapping[str, str]] = None, *, encoding: str = "", currency: str = "", is_free: bool = False
+) -> PriceList:
+    """The articles of a CSV file or a spreadsheet, and the errors of its other lines. ``columns`` names your own headings,
+    such as ``{"name": "Ware"}``, or columns by their numbers from 1; ``{"price": ""}`` says that labels have no price. The
+    prices have the decimals of the currency; zero is a price if articles may be free.
 
-    :raises Faults: nobody can say what its columns are.
+    :raises Faults: nobody can say what its columns are, or which of them is the price on the shelf.
     """
-    table = table_of(data, year, columns)
-    articles, faults = articles_of(table, year)
-    return PriceList(articles, faults, table.note, table.encoding)
+    table = table_of(data, year, columns, encoding)
+    articles, faults = articles_of(table, year, currency, is_free)
+    if table.question:
+        raise Faults(sorted([table.question, *faults]))
+    return PriceList(articles, faults, _notes(table, articles))
+
+
+def _notes(table: Table, articles: Sequence[Article]) -> List[str]:
+    """What a person should know of how a list was read."""
+    unpriced = [article.line for article in articles if not article.price] if "price" in table.places else []
+    return [*filter(None, [*table.opened, table.note]),
+            *([said("unused", ", ".join(table.unused))] if table.unused else []),
+            *_lines("passed", table.passed), *_lines("unpriced", unpriced)]
+
+
+def _lines(text: str, lines: Sequence[int]) -> List[str]:
+    """A sentence about some lines, or nothing if there are none. Lines in a row are written as 4-9."""
+    runs: List[List[int]] = []
+    for line in lines:
+        if runs and runs[-1][-1] + 1 == line:
+            runs[-1].append(line)
+        else:
+            runs.append([line])
+    shown = ", ".join(f"{run[0]}-{run[-1]}" if len(run) > 1 else str(run[0]) for run in runs)
+    return [said(text if len(lines) > 1 else f"{text}1", shown)] if lines else []
 
 
 def make(

@@ -4,9 +4,10 @@ from __future__ import annotations
 import re
 import unicodedata
 from dataclasses import dataclass
-from typing import List, Optional, Tuple
+from typing import Dict, List, Optional, Sequence, Tuple
 
 from .. import Answer, Kind, Refusal
+from .._amounts import Amounts
 from .._columns import Table
 from .._lists import Fault, Record
 from .._shop import said
@@ -37,18 +38,67 @@ class Article:
     copies: int = 1
 
 
-def articles_of(table: Table, year: int) -> Tuple[List[Article], List[Fault]]:
-    """The articles of a table, and the errors of its other lines."""
+def articles_of(table: Table, year: int, currency: str = "", is_free: bool = False) -> Tuple[List[Article], List[Fault]]:
+    """The articles of a table, and the errors of its other lines. The prices have the decimals of the currency; zero is one
+    if articles may be free."""
+    amounts = Amounts([_line(table.cell(record, "price")) for record in table.records], table.heading, currency, is_free)
+    is_split = _are_split(table)
     articles, faults = [], list(table.faults)
     for record in table.records:
         try:
-            articles.append(_article(table, record, year))
+            _check_width(table, record, is_split)
+            articles.append(_article(table, record, year, amounts))
         except ValueError as error:
             faults.append(Fault(record.line, str(error)))
-    return articles, sorted(faults)
+    doubles = _doubles(articles)
+    return [it for it in articles if it.line not in doubles], sorted([*faults, *doubles.values()])
 
 
-def _article(table: Table, record: Record, year: int) -> Article:
+def _doubles(articles: Sequence[Article]) -> Dict[int, Fault]:
+    """The errors of the lines that have one number with several names or prices."""
+    first: Dict[str, Article] = {}
+    faults: Dict[int, Fault] = {}
+    for article in articles:
+        before = first.setdefault(article.text, article)
+        if (before.name, before.price) != (article.name, article.price):
+            faults[article.line] = Fault(article.line, said("sameNumber", before.line))
+            faults.setdefault(before.line, Fault(before.line, said("sameNumber", article.line)))
+    # Another line may agree with the first one, whose number is in doubt now.
+    for article in articles:
+        if first[article.text].line in faults:
+            faults.setdefault(article.line, Fault(article.line, said("sameNumber", first[article.text].line)))
+    return faults
+
+
+def _check_width(table: Table, record: Record, is_split: bool) -> None:
+    """Looks for cells that belong to no column, and for a price that its decimal comma split.
+
+    :raises ValueError: there are some.
+    """
+    beyond = [cell for cell in record.cells[table.width:] if cell.strip()]
+    place = next(iter(table.places.get("price", ())), len(record.cells))
+    behind = record.cells[place:place + 2]
+    if len(behind) == 2 and table.delimiter == "," and (is_split or len(record.cells) > table.width) and _is_half(*behind):
+        raise ValueError(said("splitPrice", _short(_line(behind[0])), _short(_line(behind[1]))))
+    if beyond:
+        raise ValueError(said("beyond", _short(_line(beyond[0])), len(record.cells), table.width))
+
+
+def _are_split(table: Table) -> bool:
+    """Whether all prices look like halves: whole numbers, with two digits in the next cell."""
+    place = next(iter(table.places.get("price", ())), None)
+    if place is None or table.delimiter != ",":
+        return False
+    pairs = [record.cells[place:place + 2] for record in table.records if "".join(record.cells[place:place + 1]).strip()]
+    return bool(pairs) and all(len(pair) == 2 and _is_half(*pair) for pair in pairs)
+
+
+def _is_half(price: str, behind: str) -> bool:
+    """Whether a price and the next cell may be one number that a decimal comma split."""
+    return bool(re.fullmatch(r"[^0-9.,]*[0-9]{1,7}", price.strip()) and re.fullmatch(r"[0-9]{2}[^0-9.,]*", behind.strip()))
+
+
+def _article(table: Table, record: Record, year: int, amounts: Amounts) -> Article:
     """The article of a record. A missing cell counts as empty."""
     gtin, elements = stripped(table.cell(record, "gtin")), stripped(table.cell(record, "gs1"))
     if gtin and elements:
@@ -60,7 +110,7 @@ def _article(table: Table, record: Record, year: int) -> Article:
     lines = tuple(_line(record.cells[place]) for place in table.places.get("line", ()) if place < len(record.cells))
     name, price = _plain(table.cell(record, "name")), _line(table.cell(record, "price"))
     copies = _copies(table.cell(record, "copies").strip())
-    return Article(record.line, kind, printed, answer, name, price, tuple(filter(None, lines)), copies)
+    return Article(record.line, kind, printed, answer, name, amounts.printed(price) if price else "", tuple(filter(None, lines)), copies)
 
 
 def _symbol(text: str, kind: Optional[Kind], year: int) -> Tuple[Kind, str, Answer]:

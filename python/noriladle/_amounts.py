@@ -1,0 +1,117 @@
+"""Reads prices as people write them, and says how they are printed. docs/LABELS.md says the rule."""
+from __future__ import annotations
+
+import re
+from typing import Dict, Iterable, List, NamedTuple, Optional
+
+from ._prices import PriceHeading
+from ._shop import decimal_sign, file_of, said
+
+_DECIMALS: Dict[str, int] = {}
+"""How many decimals a currency has, by each of its signs."""
+for _decimals, *_signs in file_of("prices")["currencies"].values():
+    _DECIMALS.update(dict.fromkeys(_signs, _decimals))
+
+_SIGN = "|".join(map(re.escape, sorted(_DECIMALS, key=len, reverse=True)))
+_GROUPS = ".,'’ \xa0\u202f"
+_PRICE = re.compile(
+    rf"(?P<below>[-−])?(?P<front>(?:{_SIGN})[ \xa0]?)?(?P<minus>[-−])?"
+    rf"(?P<whole>[0-9]{{1,7}}|[0-9]{{1,3}}(?P<group>[{_GROUPS}])[0-9]{{3}}(?:(?P=group)[0-9]{{3}})?)"
+    rf"(?:(?P<point>[.,])(?:(?P<fraction>[0-9]+)|(?P<dash>[-–—]{{1,2}})))?(?P<debit>-)?"
+    rf"(?P<back>[ \xa0]?(?:{_SIGN}))?(?P<each>[ \xa0]?(?:/|(?:je|pro|per|par|por|al|za)[ \xa0])[ \xa0]?[^\W\d_][\w. ]{{0,11}})?",
+    re.IGNORECASE)
+"""A price: a number with or without decimals, a currency before or behind it, and what it is for."""
+
+
+class _Written(NamedTuple):
+    """A price as it is written."""
+
+    before: str
+    whole: str
+    group: str
+    point: str
+    fraction: str
+    dash: str
+    after: str
+    currency: str
+    is_below: bool
+
+
+class Amounts:
+    """The prices of a column. Its cells say together whether a point or a comma stands before the decimals."""
+
+    def __init__(self, cells: Iterable[str], heading: Optional[PriceHeading], currency: str, is_free: bool) -> None:
+        marks = sorted(heading.marks & _DECIMALS.keys()) if heading else []
+        self._decimals = _DECIMALS.get((currency or "".join(marks[:1])).casefold(), 2)
+        self._is_cents, self._is_free = bool(heading and heading.is_cents), is_free
+        written = [it for it in map(_written, cells) if it and it.point and (it.group or len(it.fraction) != 3)]
+        points = {it.point for it in written}
+        self._point = points.pop() if len(points) == 1 else ""
+
+    def printed(self, cell: str) -> str:
+        """The price of a cell as it is printed: with the decimals of its currency.
+
+        :raises ValueError: it is no price, in words.
+        """
+        price = _written(cell)
+        if not price or re.match("0[0-9]", price.whole):
+            raise ValueError(said("noAmount", _short(cell)))
+        if price.is_below:
+            raise ValueError(said("belowZero", _short(cell)))
+        price = self._in_full(self._of_cents(price, cell) if self._is_cents else price, cell)
+        if not self._is_free and not re.search("[1-9]", price.whole + price.fraction):
+            raise ValueError(f"{said('zeroPrice', _short(cell))} (--free)")
+        decimals = f"{price.point}{price.fraction or price.dash}" if price.fraction or price.dash else ""
+        return f"{price.before}{price.whole}{decimals}{price.after}"
+
+    def _of_cents(self, price: _Written, cell: str) -> _Written:
+        """The price in money of a whole number of cents."""
+        if price.group or price.fraction or price.dash or price.currency:
+            raise ValueError(said("notCents", _short(cell)))
+        digits = price.whole.zfill(3)
+        return price._replace(whole=digits[:-2], point=self._point or decimal_sign(), fraction=digits[-2:])
+
+    def _in_full(self, price: _Written, cell: str) -> _Written:
+        """A price with the decimals of its currency.
+
+        :raises ValueError: it has more, or nobody can say what they are.
+        """
+        decimals = _DECIMALS.get(price.currency, self._decimals)
+        if price.dash:
+            return price
+        if len(price.fraction) == 3 and not price.group and 0 < len(price.whole) <= 3 and price.whole != "0" and decimals != 3:
+            price = self._grouped(price, cell, decimals)
+        fraction = price.fraction[:decimals].ljust(decimals, "0")
+        if price.fraction[decimals:].strip("0"):
+            raise ValueError(said("decimalsOfPrice", _short(cell), decimals, f"{price.whole}{price.point}{fraction}"))
+        point = price.point or self._point or decimal_sign()
+        if point == price.group:
+            point = "," if point == "." else "."
+        return price._replace(point=point, fraction=fraction)
+
+    def _grouped(self, price: _Written, cell: str, decimals: int) -> _Written:
+        """A price such as 1.299, if other prices of the list write decimals with the other sign, or the currency has none.
+
+        :raises ValueError: they do not.
+        """
+        if decimals and self._point in ("", price.point):
+            full = f"{price.whole}{price.fraction}{price.point}{'0' * decimals}"
+            raise ValueError(said("twoAmounts", _short(cell), full, f"{price.whole}{price.point}{price.fraction[:2]}"))
+        return price._replace(whole=f"{price.whole}{price.point}{price.fraction}", group=price.point, point="", fraction="")
+
+
+def _written(cell: str) -> Optional[_Written]:
+    """The parts of a cell that is written like a price."""
+    found = _PRICE.fullmatch(cell)
+    if not found or found["front"] and found["back"]:
+        return None
+    part: Dict[str, str] = {name: text or "" for name, text in found.groupdict().items()}
+    currency = (part["front"] or part["back"]).strip().casefold()
+    return _Written(part["front"], part["whole"], part["group"], part["point"], part["fraction"], part["dash"],
+                    part["back"] + part["each"], currency, any(part[name] for name in ("below", "minus", "debit")))
+
+
+def _short(text: str) -> str:
+    """A text as an error names it."""
+    plain = "".join(letter if letter.isprintable() else "?" for letter in text)
+    return plain if len(plain) <= 60 else f"{plain[:59]}…"
