@@ -1,8 +1,9 @@
 """Opens the file of a list: a spreadsheet, or a text in any of its encodings."""
 from __future__ import annotations
 
-from typing import List, NamedTuple, Sequence, Tuple
+from typing import NamedTuple, Sequence
 
+from ._encodings import decoded
 from ._lists import LIMIT, Fault, Faults, Sheet, sheets_of
 from ._shop import said
 
@@ -30,17 +31,6 @@ def opened_list(data: bytes, encoding: str = "") -> Opened:
     for magic, name, way in _OTHER_FILES:
         if data.startswith(magic):
             raise Faults([Fault(1, f"{said(name)}{way}")])
-    text, told = _decoded(data)
-    return Opened(sheets_of(text))
-
-
-def _decoded(data: bytes) -> Tuple[str, str]:
-    if data[:2] in (b"\xff\xfe", b"\xfe\xff"):
-        return data.decode("utf-16", "replace"), "utf-16"
-    if b"\0" in data:
-        line = 1 + data[:data.index(b"\0")].count(b"\n")
-        raise Faults([Fault(line, said("noText"))])
-    try:
-        return data.decode("utf-8-sig"), "utf-8-sig"
-    except UnicodeDecodeError:
-        return data.decode("cp1252", "replace"), "cp1252"
+    text, note, damaged = decoded(data, encoding)
+    faults = [Fault(line, said("notUtf8")) for line in damaged]
+    return Opened([sheet.without(faults) for sheet in sheets_of(text)], [note] if note else [])

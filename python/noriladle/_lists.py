@@ -4,7 +4,7 @@ from __future__ import annotations
 import csv
 import io
 import re
-from typing import List, NamedTuple, Sequence, Tuple
+from typing import List, NamedTuple, Sequence
 
 from ._shop import said
 
@@ -46,6 +46,12 @@ class Sheet(NamedTuple):
     delimiter: str
     records: Sequence[Record]
     faults: Sequence[Fault]
+
+    def without(self, faults: Sequence[Fault]) -> Sheet:
+        """The list without the records of these lines, and with these errors for them. The heading is not taken out."""
+        lines = {fault.line for fault in faults}
+        records = [record for record in self.records if record.line not in lines]
+        return Sheet(self.delimiter, records, sorted([*self.faults, *faults])) if faults else self
 
 
 def sheets_of(text: str) -> List[Sheet]:

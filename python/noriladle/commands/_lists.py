@@ -6,6 +6,7 @@ import sys
 from typing import Dict
 
 from .._columns import MEANINGS
+from .._encodings import NAMES, encoding_of
 from .._lists import LIMIT
 from . import WrongWords, tell
 
@@ -15,6 +16,15 @@ def add_list(parser: argparse.ArgumentParser) -> None:
     parser.add_argument("list", nargs="?", default="-", metavar="LIST", help="The list; standard input if left out or -")
     parser.add_argument("--column", action="append", default=[], metavar="NAME=HEADING",
                         help=f"Column of the {', '.join(MEANINGS[:-1])} or {MEANINGS[-1]}, by its heading or number")
+    parser.add_argument("--encoding", type=_encoding, metavar="NAME",
+                        help=f"Encoding of the list, if it cannot be found: {', '.join(NAMES)}")
+
+
+def _encoding(word: str) -> str:
+    name = encoding_of(word)
+    if not name:
+        raise argparse.ArgumentTypeError(f"{word!r} is none of {', '.join(NAMES)}")
+    return name
 
 
 def add_price(parser: argparse.ArgumentParser) -> None:

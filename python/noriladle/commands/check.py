@@ -45,13 +45,13 @@ def run(words: argparse.Namespace) -> int:
     """Prints what each line of the list says."""
     name = name_of(words)
     try:
-        table = table_of(read_list(words), words.year, columns_of(words))
+        table = table_of(read_list(words), words.year, columns_of(words), words.encoding or "")
     except Faults as error:
         for fault in error.faults:
             tell(f"{name}:{fault.line}: {fault.said}")
         return REFUSED
-    if table.note:
-        tell(f"{name}: {table.note}")
+    for note in [*table.opened, *filter(None, [table.note])]:
+        tell(f"{name}: {note}")
     status, progress = RIGHT, Progress()
     for checked in checked_lines(table, words.year, words.ais):
         if not sys.stdout.isatty():

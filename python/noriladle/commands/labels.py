@@ -86,7 +86,8 @@ def run(words: argparse.Namespace) -> int:
     progress = Progress()
     try:
         stock, fonts = shop.stock_of(words.stock), shop.fonts_of(words.font, words.bold)
-        prices = shop.read_list(read_list(words), words.year, columns, currency=words.currency, is_free=words.free)
+        prices = shop.read_list(read_list(words), words.year, columns, encoding=words.encoding or "",
+                                currency=words.currency, is_free=words.free)
         for note in prices.notes:
             tell(f"{name}: {note}")
         made = shop.make(
