@@ -100,6 +100,12 @@ class Amounts:
         return price._replace(whole=f"{price.whole}{price.point}{price.fraction}", group=price.point, point="", fraction="")
 
 
+def price_like(cell: str) -> bool:
+    """Whether a cell is nothing but a price with decimals."""
+    price = _written(cell)
+    return bool(price and price.point)
+
+
 def _written(cell: str) -> Optional[_Written]:
     """The parts of a cell that is written like a price."""
     found = _PRICE.fullmatch(cell)

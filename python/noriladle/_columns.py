@@ -9,9 +9,9 @@ from typing import Dict, List, Mapping, Optional, Sequence, Set, Tuple
 
 from . import Refusal
 from ._files import opened_list
-from ._lists import WHOLE_LINES, Fault, Faults, Record, Sheet
+from ._lists import SPREADSHEET, WHOLE_LINES, Fault, Faults, Record, Sheet
 from ._prices import CARTON, PriceHeading, folded, price_of, shelf_prices
-from ._shop import said, shared
+from ._shop import said, sentence_of_lines, shared, told
 from ._texts import Unreadable, looks_right, read_text
 
 _WORDS: Dict[str, List[str]] = shared("headings")
@@ -56,16 +56,26 @@ class Table:
     delimiter: str
     width: int
     """How many cells a record may have."""
+    shortest: int
+    """How many cells a record has at least, unless some are missing."""
     question: Optional[Fault] = None
     """What a person must say about the price before labels are made."""
     heading: Optional[PriceHeading] = None
     """What the heading of the price says."""
     unused: Sequence[str] = ()
     """The columns that are not used, by their headings or numbers."""
+    lost: Sequence[Record] = ()
+    """What stands in the lines that have an error, as far as it can be told."""
     passed: Sequence[int] = ()
     """The lines that have no number, such as categories and totals."""
+    source: Sequence[Record] = ()
+    """All records of the list, also those above the heading."""
     opened: Sequence[str] = ()
     """What a person should know of how the file was read."""
+
+    def notes(self) -> List[str]:
+        """What a person should know of how the list was read."""
+        return [*self.opened, *([self.note] if self.note else []), *sentence_of_lines("passed", self.passed)]
 
     def cell(self, record: Record, meaning: str) -> str:
         """The cell of a record in a column: empty if the record is too short, or if there is no such column."""
@@ -145,7 +155,7 @@ class _Look:
             # A heading with more words, such as "EAN of the case", loses against one that is a known word.
             if others and best[0] >= 0 and best[0] // _LONGER == others[0][0] // _LONGER:
                 first, second = (" ".join(self.first.cells[place].split()) for place in sorted((best[1], others[0][1])))
-                raise Faults([Fault(self.first.line, f"{said('twice', first, second, meaning)}, as in --column {meaning}='{first}'")])
+                raise Faults([Fault(self.first.line, told("by", said("twice", first, second, meaning), f"--column {meaning}='{first}'"))])
         return {meaning: [place for _, place in places] if meaning == "line" else [min(places)[1]]
                 for meaning, places in found.items() if meaning not in self.none}
 
@@ -180,7 +190,7 @@ class _Look:
         asked = {meaning: [self._asked(meaning, int(word))] for meaning, word in self.asked.items()}
         is_found = not is_headed and not {"gtin", "gs1"} & asked.keys()
         if is_found and not self.looking and (self.wide > 1 or self.headed):
-            raise Faults([Fault(self.first.line, f"{said('noNumbers')}, as in --column gtin='{' '.join(self.first.cells[0].split())}'")])
+            raise Faults([Fault(self.first.line, told("by", said("noNumbers"), f"--column gtin='{' '.join(self.first.cells[0].split())}'"))])
         number = asked.get("gtin") or asked.get("gs1") or [self.number]
         has_heading = is_headed or self._has_heading(number[0])
         self._check_names(has_heading)
@@ -198,16 +208,26 @@ class _Look:
         is_lines = self.sheet.delimiter == WHOLE_LINES
         note = self._note(places, has_heading) if is_found and (has_heading or not is_lines) else ""
         if self.titles:
-            note = f"took line {self.first.line} for the heading, and nothing above it"
+            note = told("tookLine", self.first.line)
         question = None if "price" in places or "price" in self.none else self._question(choice, has_heading, places)
         numbers = [place for meaning in ("gtin", "gs1") for place in places.get(meaning, ())]
-        passed = [] if is_lines else [record for record in records if not any(
-            re.search(r"[\d#]", record.cells[place]) for place in numbers if place < len(record.cells))]
-        lines = {record.line for record in passed}
+        wide = self._width(has_heading)
+        lines = set() if is_lines else {record.line for record in records if self._has_no_number(record, numbers, wide)}
         price = places.get("price", ())
         heading = price_of(self.first.cells[price[0]]) if price and has_heading and price[0] < len(self.first.cells) else None
         return Table([record for record in records if record.line not in lines], places, self.sheet.faults, note, self.sheet.delimiter,
-                     self._width(has_heading), question, heading, self._unused(places, records, has_heading), sorted(lines))
+                     wide, self._shortest(records), question, heading, self._unused(places, records, has_heading), self.sheet.lost, sorted(lines), self.sheet.records)
+
+    def _has_no_number(self, record: Record, numbers: Sequence[int], wide: int) -> bool:
+        """Whether a record is a category or a total: it has nothing like a number in its columns, nor one elsewhere."""
+        cells = [record.cells[place] for place in numbers if place < len(record.cells)]
+        return (not re.search(r"[\d#]", " ".join(cells)) and not any(cell.strip() for cell in record.cells[wide:])
+                and not any(looks_right(cell) and _is_right(cell, self.year) for cell in record.cells))
+
+    def _shortest(self, records: Sequence[Record]) -> int:
+        """How many cells a record of a text has, if none is missing: as many as most have."""
+        usual = Counter(len(record.cells) for record in records[:_SAMPLE])
+        return max(usual, key=lambda count: (usual[count], count), default=0) if self.sheet.delimiter != SPREADSHEET else 0
 
     def _width(self, has_heading: bool) -> int:
         """How many cells a record may have: as many as the heading, or else as most have."""
@@ -266,21 +286,21 @@ class _Look:
 
     def _question(self, choice: Sequence[int], has_heading: bool, places: Mapping[str, Sequence[int]]) -> Fault:
         """The question which column is the price."""
-        told = {place: heading.reason for place, heading in enumerate(map(price_of, self.first.cells)) if heading and heading.reason}
+        reasons = {place: heading.reason for place, heading in enumerate(map(price_of, self.first.cells)) if heading and heading.reason}
         looking = self._amounts(self._free(places), self.records[has_heading:])
-        columns = choice or sorted({*(told if has_heading else ()), *looking})
+        columns = choice or sorted({*(reasons if has_heading else ()), *looking})
         if choice:
             text = said("whichPrice", ", ".join(self._named(place, has_heading) for place in choice))
         elif columns:
             text = said("noShelfPrice", ", ".join(
-                said("because", self._heading(place, has_heading), said(told[place])) if has_heading and place in told
+                said("because", self._heading(place, has_heading), said(reasons[place])) if has_heading and place in reasons
                 else self._named(place, has_heading) for place in columns))
         else:
             text = said("nonePrice")
         is_unique = columns and has_heading and [*map(plain, self.first.cells)].count(plain(self._heading(columns[0], True))) == 1
         answer = self._heading(columns[0], True) if is_unique else columns[0] + 1 if columns else ""
-        way = f"--column price={repr(answer) if is_unique else answer}, or --no-price" if columns else "--no-price"
-        return Fault(self.first.line, f"{text}, as in {way}")
+        column = f"--column price={repr(answer) if is_unique else answer}"
+        return Fault(self.first.line, told("by", text, told("or", column, "--no-price") if columns else "--no-price"))
 
     def _heading(self, place: int, has_heading: bool) -> str:
         """The heading of a column, or nothing."""
@@ -314,10 +334,10 @@ class _Look:
         """What each column was taken for."""
         titles = [repr(" ".join(cell.split())) for cell in self.first.cells] if has_heading else []
         if self.sheet.delimiter == WHOLE_LINES:
-            return f"took {titles[0]} in line {self.first.line} for a heading"
-        shown = [f"{titles[place] if place < len(titles) else f'column {place + 1}'} for the {meaning}"
+            return told("tookHeading", titles[0], self.first.line)
+        shown = [told("tookFor", titles[place] if place < len(titles) else said("columnNumber", place + 1), meaning)
                  for meaning in MEANINGS for place in places.get(meaning, ())[:1]]
-        return f"took {', '.join(shown)}; if that is wrong, say it by --column"
+        return told("took", ", ".join(shown))
 
 
 def _is_right(cell: str, year: int) -> bool:

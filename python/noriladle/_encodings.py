@@ -5,11 +5,11 @@ import re
 from typing import Any, Dict, FrozenSet, List, NamedTuple, Optional, Sequence, Set
 
 from ._lists import Fault, Faults
-from ._shop import file_of, said
+from ._shop import file_of, said, told
 
 _TABLE: Dict[str, Any] = file_of("encodings")
 _PAGES: Dict[str, str] = _TABLE["pages"]
-_SIGNS, _JOINING, _ALONE = (frozenset(_TABLE[name]) for name in ("signs", "joining", "alone"))
+_SIGNS, _JOINING, _CLOSING, _ALONE = (frozenset(_TABLE[name]) for name in ("signs", "joining", "closing", "alone"))
 _SEVEN = {name: frozenset(letters + letters.upper()) for name, letters in _TABLE["languages"].items()}
 _ALL = {**_SEVEN, **{name: frozenset(letters + letters.upper()) for name, letters in _TABLE["neighbours"].items()}}
 _NATIVE = {page: frozenset(names) for page, names in _TABLE["groups"].items()}
@@ -22,8 +22,11 @@ NAMES = tuple(_TABLE["names"])
 """The encodings that a person may name."""
 
 _WINDOWS = ("cp1252", "cp1250")
+_USUAL = _WINDOWS[0]
 _MOST_WORDS = 2_000
 """How many different words decide."""
+_LEAST = 16
+"""How many bytes a number has in UTF-16, at least."""
 _HEAD = 4_000
 """How many bytes may have the words of a heading."""
 
@@ -65,7 +68,7 @@ def decoded(data: bytes, encoding: str = "") -> Decoded:
 def _unicode(data: bytes) -> str:
     """Which form of Unicode the bytes are, if they are one: most of UTF-16's are pairs with a byte 0."""
     zeros = data.count(0)
-    if data[:2] in (b"\xff\xfe", b"\xfe\xff") or len(data) % 2 == 0 and 4 * zeros >= len(data) and zeros in (
+    if data[:2] in (b"\xff\xfe", b"\xfe\xff") or len(data) % 2 == 0 and len(data) >= _LEAST and 4 * zeros >= len(data) and zeros in (
             data[0::2].count(0), data[1::2].count(0)):
         return "utf-16"
     text = data.decode("utf-8", "replace")
@@ -88,15 +91,22 @@ def _page(data: bytes) -> str:
     words = _words(data)
     hints = _hinted(data)
     letters = {page: it for page in _PAGES for it in [_letters([_text(word, page) for word in words])] if it is not None}
-    fitting = ([page for page, its in letters.items() if any(its <= _ALL[name] for name in hints)]
-               or [page for page, its in letters.items() if any(its <= _ALL[name] for name in (_ALL if page in _WINDOWS else _SEVEN))]
-               or [page for page, its in letters.items() if its <= _GROUPS[page] and hints <= _NATIVE[page]])
+    fitting = [page for page, its in letters.items() if any(its <= _ALL[name] for name in _languages(page, hints))]
     if not fitting:
-        raise Faults([Fault(1, f"{said('noEncoding')}, as in --encoding {next(iter(_PAGES))}")])
+        mixed = [page for page, its in letters.items() if its <= _GROUPS[page]]
+        fitting = mixed[:1] if hints and hints <= _NATIVE[_USUAL] and mixed[:1] == [_USUAL] else mixed
+    if not fitting:
+        raise Faults([Fault(1, told("by", said("noEncoding"), f"--encoding {next(iter(_PAGES))}"))])
     if len({tuple(_text(word, page) for word in words) for page in fitting}) > 1:
         pages = ", ".join(_TABLE["shown"][page] for page in fitting)
-        raise Faults([Fault(1, f"{said('whichEncoding', pages)}, as in --encoding {fitting[0]}")])
+        raise Faults([Fault(1, told("by", said("whichEncoding", pages), f"--encoding {fitting[0]}"))])
     return fitting[0]
+
+
+def _languages(page: str, hints: Set[str]) -> Set[str]:
+    """The languages that a list in a page may have: the seven, and of their neighbours those with a hint, or without any hint
+    those of Windows."""
+    return {*_SEVEN, *(hints or (_ALL if page in _WINDOWS else ()))}
 
 
 def _words(data: bytes) -> List[bytes]:
@@ -125,7 +135,7 @@ def _letters(words: Sequence[str]) -> Optional[Set[str]]:
         for at, sign in enumerate(word):
             before, after = word[at - 1] if at else "", word[at + 1:at + 2]
             if sign in _SIGNS:
-                if sign not in _JOINING and _is_letter(before) and _is_letter(after):
+                if _is_letter(after) and (sign in _CLOSING or sign not in _JOINING and _is_letter(before)):
                     return None
             elif not sign.isascii():
                 if not sign.isalpha() or _is_misplaced(before, sign, after):

@@ -5,13 +5,13 @@ from typing import NamedTuple, Sequence
 
 from ._encodings import decoded
 from ._lists import LIMIT, Fault, Faults, Sheet, sheets_of
-from ._shop import said
+from ._shop import said, told
 
-_READ = ": noriladle read takes it"
-_OTHER_FILES = (
-    (b"PK\x03\x04", "spreadsheet", ""), (b"\xd0\xcf\x11\xe0", "spreadsheet", ""), (b"%PDF-", "pdf", _READ),
-    (b"\x89PNG", "picture", _READ), (b"\xff\xd8\xff", "picture", _READ), (b"\x1f\x8b", "packed", ""),
-)
+_OTHER_FILES = ((b"%PDF-", "pdf"), (b"\x89PNG", "picture"), (b"\xff\xd8\xff", "picture"), (b"\x1f\x8b", "packed"))
+_PICTURES = ("pdf", "picture")
+"""What ``noriladle read`` takes."""
+_OLD_SPREADSHEET = b"\xd0\xcf\x11\xe0"
+"""How a file begins that Excel wrote before 2007, or with a password."""
 
 
 class Opened(NamedTuple):
@@ -28,9 +28,16 @@ def opened_list(data: bytes, encoding: str = "") -> Opened:
     """
     if len(data) > LIMIT:
         raise Faults([Fault(1, said("tooLarge", f"{LIMIT:,}"))])
-    for magic, name, way in _OTHER_FILES:
+    if data.startswith(b"PK\x03\x04"):
+        from ._spreadsheets import opened_book  # Imported only here, since it takes time.
+
+        sheet, notes = opened_book(data)
+        return Opened([sheet], notes)
+    if data.startswith(_OLD_SPREADSHEET):
+        raise Faults([Fault(1, said("sheetEncrypted" if "EncryptedPackage".encode("utf-16-le") in data else "sheetOld"))])
+    for magic, name in _OTHER_FILES:
         if data.startswith(magic):
-            raise Faults([Fault(1, f"{said(name)}{way}")])
+            raise Faults([Fault(1, told("takesPicture", said(name)) if name in _PICTURES else said(name))])
     text, note, damaged = decoded(data, encoding)
     faults = [Fault(line, said("notUtf8")) for line in damaged]
     return Opened([sheet.without(faults) for sheet in sheets_of(text)], [note] if note else [])

@@ -14,6 +14,9 @@ LIMIT = 16_777_216
 WHOLE_LINES = "\x1f"
 """The delimiter of a list with one cell a line: a character that no text has."""
 
+SPREADSHEET = "\x1e"
+"""The delimiter of a spreadsheet's file: a character that no text has."""
+
 _MOST_CELL = 1_000_000
 _DELIMITERS = (WHOLE_LINES, ";", "\t", ",", "|")
 
@@ -46,12 +49,14 @@ class Sheet(NamedTuple):
     delimiter: str
     records: Sequence[Record]
     faults: Sequence[Fault]
+    lost: Sequence[Record] = ()
+    """What stands in the lines that have an error, as far as it can be told."""
 
     def without(self, faults: Sequence[Fault]) -> Sheet:
         """The list without the records of these lines, and with these errors for them. The heading is not taken out."""
         lines = {fault.line for fault in faults}
-        records = [record for record in self.records if record.line not in lines]
-        return Sheet(self.delimiter, records, sorted([*self.faults, *faults])) if faults else self
+        records, lost = ([it for it in self.records if (it.line in lines) is is_lost] for is_lost in (False, True))
+        return Sheet(self.delimiter, records, sorted([*self.faults, *faults]), [*self.lost, *lost]) if faults else self
 
 
 def sheets_of(text: str) -> List[Sheet]:
@@ -73,18 +78,22 @@ def sheets_of(text: str) -> List[Sheet]:
 def _sheet(text: str, delimiter: str, first: int) -> Sheet:
     """The records of a text that are not empty; its first line has this number."""
     csv.field_size_limit(_MOST_CELL)
-    reader = csv.reader(io.StringIO(text, newline=""), delimiter=delimiter, strict=True)
+    source = io.StringIO(text, newline="")
+    reader = csv.reader(source, delimiter=delimiter, strict=True)
     records: List[Record] = []
     faults: List[Fault] = []
-    line = first
+    lost: List[Record] = []
+    line, at = first, 0
     while True:
         try:
             cells = next(reader)
         except StopIteration:
-            return Sheet(delimiter, records, faults)
+            return Sheet(delimiter, records, faults, lost)
         except csv.Error:
             faults.append(Fault(line, said("noCsv")))
+            lost.append(Record(line, re.split(f"[{re.escape(delimiter)}\r\n\"]", text[at:source.tell()])))
             cells = []
+        at = source.tell()
         if any(cell.strip() for cell in cells):
             records.append(Record(line, cells))
         line = first + reader.line_num

@@ -5,9 +5,11 @@ python/build puts the files of the repository's folder shop/ beside this module.
 from __future__ import annotations
 
 import json
+import os
+import re
 from functools import lru_cache
 from pathlib import Path
-from typing import Any, Dict
+from typing import Any, Dict, List, Sequence
 
 
 @lru_cache(maxsize=None)
@@ -31,13 +33,46 @@ def speak(language: str) -> None:
     _language = language if (Path(__file__).with_name("shop") / f"{language}.json").is_file() else "en"
 
 
+def machine_language() -> str:
+    """The language of this machine, such as de, or en if shop/ does not have it."""
+    name = os.environ.get("LC_ALL") or os.environ.get("LC_MESSAGES") or os.environ.get("LANG") or ""
+    return name[:2] if re.match("[a-z]{2}(?![a-z])", name) else "en"
+
+
 def decimal_sign() -> str:
     """What stands before the decimals of a price, if the list does not show it."""
     sign: str = file_of(_language)["decimal"]
     return sign
 
 
+def told(name: str, *values: object) -> str:
+    """A sentence of the commands, with these values in it."""
+    sentence: str = file_of(_language)["command"][name]
+    return sentence.format(*values)
+
+
+def counted(name: str, number: int, *values: object) -> str:
+    """A sentence of the commands that begins with a number of things."""
+    return told(name if number != 1 else f"{name}1", f"{number:,}", *values)
+
+
 def said(fault: object, *values: object) -> str:
     """The text of an error, by its name or number, with these values in it."""
-    told: str = file_of(_language)["faults"][str(fault)]
-    return told.format(*values)
+    text: str = file_of(_language)["faults"][str(fault)]
+    return text.format(*values)
+
+
+def runs_of(lines: Sequence[int]) -> str:
+    """Numbers of lines as a person writes them, such as 2, 4-9."""
+    runs: List[List[int]] = []
+    for line in lines:
+        if runs and runs[-1][-1] + 1 == line:
+            runs[-1].append(line)
+        else:
+            runs.append([line])
+    return ", ".join(f"{run[0]}-{run[-1]}" if len(run) > 1 else str(run[0]) for run in runs)
+
+
+def sentence_of_lines(fault: str, lines: Sequence[int]) -> List[str]:
+    """A sentence that counts some lines and names them, or nothing if there are none."""
+    return [said(fault if len(lines) > 1 else f"{fault}1", f"{len(lines):,}", runs_of(lines))] if lines else []

@@ -4,13 +4,16 @@ from __future__ import annotations
 import re
 from typing import List, Tuple
 
-from . import Ais, Answer, Refusal, check_digit, read_gtin, read_scan
+from . import Ais, Answer, Refusal, read_gtin, read_scan
+from ._mending import advice
 from ._shop import said
 
 _BRACKETED = {"(": re.compile(r"\((\d{2,4})\)([^()]+)"), "[": re.compile(r"\[(\d{2,4})\]([^][]+)")}
 _BLANKS = re.compile(r"[\s\xa0\u2007\u202f]+")
 _PUNCTUATION = re.compile(r"[\s\xa0\u2007\u202f\u2010-\u2015-]+")
 _LINK = re.compile(r"https?://", re.IGNORECASE)
+_OF_NUMBERS = (1, 2, 3)
+"""The refusals of a number: its length, a sign that is no digit, its check digit."""
 _ROUNDED = re.compile(r"\d([.,]\d+)?E\+?\d+", re.IGNORECASE)
 
 
@@ -95,7 +98,7 @@ def remedy_of(text: str, refusal: Refusal) -> str:
         return _remedy_of_scan(text, refusal)
     if is_elements(text):
         return _remedy_of_elements(text, refusal)
-    return _remedy_of_digits(digits_of(text), refusal)
+    return _remedy_of_digits(text, refusal)
 
 
 def _remedy_of_scan(text: str, refusal: Refusal) -> str:
@@ -138,19 +141,17 @@ def _padded(ai: str, value: str) -> str:
     return said("padded", ai, gtin) if gtin != value else ""
 
 
-def _remedy_of_digits(digits: str, refusal: Refusal) -> str:
-    if _ROUNDED.fullmatch(digits):
-        return said("rounded")
-    if re.fullmatch(r"\d{8,14}[.,]0+", digits):
-        return said("decimals", re.split("[.,]", digits)[0])
-    is_number = digits.isascii() and digits.isdecimal()
-    if refusal.name == "CheckDigit":
-        return said("checkDigit", f"{digits[:-1]}{check_digit(digits[:-1])}")
+def _remedy_of_digits(text: str, refusal: Refusal) -> str:
+    digits = digits_of(text)
     if refusal.name == "Kind" and len(digits) == 8:
         return said("eight", digits)
-    for longer in (digits.zfill(length) for length in (8, 12, 13) if is_number and 5 < len(digits) < length):
-        if int(longer[-1]) == check_digit(longer[:-1]):
-            return said("zeros", longer)
-    if is_number and len(digits) > 14:
+    if re.fullmatch(r"\d{8,14}[.,]0+", digits):
+        return said("decimals", re.split("[.,]", digits)[0])
+    told = advice(text) if refusal.number in _OF_NUMBERS else ""
+    if told:
+        return told
+    if _ROUNDED.fullmatch(digits):
+        return said("rounded")
+    if digits.isascii() and digits.isdecimal() and len(digits) > 14:
         return said("manyDigits", digits)
     return _usual_remedy(digits, refusal)

@@ -16,10 +16,12 @@ from PIL import Image
 
 LIST = "ean;name;price;copies\n9501101530003;Müsli;1,95 €;\n96385074;Kaugummi;0,90 €;3\n012345000065;Cola;1,10 €;0\n".encode()
 YEAR = 2026
+NO_PRICE = {"price": ""}
 
 
 def made(data=LIST, stock="L7160", **named):
-    return make(read_list(data, YEAR), stock_of(stock), YEAR, **named)
+    columns = None if b"price" in data else NO_PRICE
+    return make(read_list(data, YEAR, columns), stock_of(stock), YEAR, **named)
 
 
 def faults(data, stock="L7160", **named):
@@ -63,7 +65,7 @@ def test_no_stock(name, told):
     ("gtin\n4012345010375\n", 2, "4012345010374 is right"),
     ("gtin\n\n\n\"4,01235E+12\"\n", 4, "the spreadsheet has rounded it"),
     ("gtin\n12345000065\n", 2, "012345000065 is right"),
-    ("gtin,name\n,x\n", 2, "this line has no number"),
+    ("gtin,name,price\n,96385074,1.00\n", 2, "this line has no number"),
     ("gtin,gs1\n96385074,(10)A\n", 2, "this line has a number and an element string"),
     ("gtin,copies\n96385074,1001\n", 2, "'1001' is not a number of copies: write 0 to 1,000"),
     ("gtin,copies\n96385074,²\n", 2, "is not a number of copies"),
@@ -73,7 +75,7 @@ def test_no_stock(name, told):
     ("gtin,kind\n9501101530003,upce\n", 2, "refused 26 LabelKind 0: print it as another kind"),
     ("gtin\n01234565\n", 2, "may be a GTIN-8 or a UPC-E"),
     ("gtin,name\n96385074,\u4e2d\n", 2, "'中' cannot be set"),
-    ("gtin,name\n96385074,שלום\n", 2, "from right to left"), ("gtin,price\n96385074,\u0301\n", 2, "cannot be set"),
+    ("gtin,name\n96385074,שלום\n", 2, "from right to left"), ("gtin,name\n96385074,\u0301\n", 2, "cannot be set"),
     ("gs1\n(01)09501101530003(17)261331\n", 2, "refused 9 ValueDate 17: at (17)261331: write YYMMDD"),
     ("gs1\n(01)09501101530003(10)A(B)C\n", 2, "parentheses stand around Application Identifiers alone"),
     ("gtin\nhttps://id.gs1.org/01/09501101530003\n", 2, "a QR code, which is not drawn here: write its elements, as (01)09501101530003"),
@@ -101,12 +103,12 @@ def test_all_faults_are_told():
     ("9501101530003,gs1128", Kind.GS1128, "0109501101530003"), ("(01)09501101530003,ean13", Kind.EAN13, "09501101530003"),
 ])
 def test_kinds(cells, kind, text):
-    article, = read_list(f"gtin,kind\n{cells}\n".encode(), YEAR).articles
+    article, = read_list(f"gtin,kind\n{cells}\n".encode(), YEAR, NO_PRICE).articles
     assert (article.kind, article.text) == (kind, text)
 
 
 def test_an_element_string_of_its_column_needs_no_mark():
-    article, = read_list(b"gs1\n010950110153000310AB\n", YEAR).articles
+    article, = read_list(b"gs1\n010950110153000310AB\n", YEAR, NO_PRICE).articles
     assert (article.kind, article.text) == (Kind.GS1128, "010950110153000310AB")
 
 
@@ -129,7 +131,7 @@ def test_modules_are_whole_dots_next_to_what_is_wanted():
 
 
 def test_warnings():
-    data = b"gtin,name\n9501101530003,x\n96385074,y\n9501101530003,z\n"
+    data = b"gtin,name\n9501101530003,x\n96385074,y\n9501101530010,z\n"
     told = "the bars are {} mm high; the standard asks for {} mm, and lower bars are harder to hit: use higher labels"
     assert [(it.lines, it.said) for it in made(data, "L7651", look=Look(600)).warnings] == [
         ((2, 4, 3), told.format("12.0", "20.5"))]
@@ -138,10 +140,10 @@ def test_warnings():
     assert said.startswith("a text is cut, since the label has no room for it: WWWW") and len(said) < 300
 
 
-def test_a_price_that_shows_nothing_does_no_harm():
+def test_a_name_that_shows_nothing_does_no_harm():
     for sign in "\u200b\u200e\xad\u2060":
         try:
-            assert made(f"gtin,price\n96385074,{sign}\n".encode(), "3474").count == 1
+            assert made(f"gtin,name\n96385074,{sign}\n".encode(), "3474").count == 1
         except Faults as error:
             assert "cannot be set" in str(error)
 
@@ -150,7 +152,7 @@ def test_one_long_price_does_not_make_all_small():
     def size(extra):
         drawings = made(f"gtin,price\n9501101530003,1.95\n96385074,2.95\n012345000065,{extra}\n".encode(), "3474").drawings
         return max(text.size for text in drawings[0][1].texts)
-    assert size("3.95") == size("3.95" * 20)
+    assert size("3.95") == size("1 234 567.95 Euro / Familienpack")
 
 
 def test_prices_of_one_width_fill_their_column():

@@ -80,7 +80,7 @@ def test_check_of_standard_input(folder, capsys, monkeypatch):
 @pytest.mark.parametrize("command", [["check"], ["labels", "-o", "a.pdf"]])
 @pytest.mark.parametrize("data, status, said", [
     (b"", 1, "a.csv:1: the list is empty"),
-    (b"PK\x03\x04", 1, "a.csv:1: this is a spreadsheet's own file: save it as CSV"),
+    (b"PK\x03\x04", 1, "a.csv:1: this spreadsheet is damaged: open it, and save it again"),
     (b"x\0", 1, "a.csv:1: there is a byte 0, so this is not text: save the list as CSV in UTF-8"),
     (b"1" * 16_777_217, 1, "a.csv:1: the list has more than 16,777,216 bytes: split it"),
 ])
@@ -143,7 +143,7 @@ def test_a_list_of_excel(folder, capsys):
     pytest.importorskip("reportlab")
     save("a.csv", "sep=;\r\nEAN;Bezeichnung;VK\r\n9501101530003;Größe;12,99\r\n", "cp1252")
     status, _, err = told(["labels", "a.csv", "-o", "a.svg", "--currency", "€"], capsys)
-    assert status == 0 and err[0] == "a.csv: warning: this is not UTF-8 and was read as Windows-1252: look at the accents"
+    assert status == 0 and err[0] == "a.csv: read as Windows-1252"
     with open("a.svg", encoding="utf-8") as file:
         text = file.read()
     assert ">Größe<" in text and ">12,99\xa0€<" in text
@@ -152,7 +152,7 @@ def test_a_list_of_excel(folder, capsys):
 def test_nothing_is_written_of_a_list_with_a_fault(folder, capsys):
     pytest.importorskip("reportlab")
     save("a.csv", "gtin\n96385074\n96385075\n96385075\n1\n")
-    assert told(["labels", "a.csv", "-o", "a.pdf"], capsys) == (1, [], [
+    assert told(["labels", "a.csv", "-o", "a.pdf", "--no-price"], capsys) == (1, [], [
         "a.csv:3: 96385075: refused 3 CheckDigit: a digit is wrong; if it is the last one, 96385074 is right (and 1 more line)",
         "a.csv:5: 1: refused 1 Length: a GTIN has 8, 12, 13 or 14 digits", "a.csv: 3 lines refused, so nothing was written"])
     assert os.listdir() == ["a.csv"]
@@ -160,14 +160,16 @@ def test_nothing_is_written_of_a_list_with_a_fault(folder, capsys):
 
 def test_a_list_without_labels(folder, capsys):
     pytest.importorskip("reportlab")
-    save("a.csv", "gtin,copies\n96385074,0\n")
-    assert told(["labels", "a.csv", "-o", "a.pdf"], capsys)[2][0] == "a.csv:1: the list has no labels to print"
+    for text in ("gtin,copies\n96385074,0\n", "ean;name;EK;VK\n"):
+        save("a.csv", text)
+        assert told(["labels", "a.csv", "-o", "a.pdf", "--no-price"], capsys) == (1, [], ["a.csv:1: the list has no labels to print"])
+    assert told(["labels", "a.csv", "-o", "a.pdf"], capsys) == (1, [], ["a.csv:1: the list has no labels to print"])
 
 
 def test_of_many_faults_the_first_are_told(folder, capsys):
     pytest.importorskip("reportlab")
     save("a.csv", "gtin\n" + "".join(f"x{number}\n" for number in range(100)))
-    _, _, err = told(["labels", "a.csv", "-o", "a.pdf"], capsys)
+    _, _, err = told(["labels", "a.csv", "-o", "a.pdf", "--no-price"], capsys)
     assert len(err) == 52 and err[50:] == ["a.csv: and 50 more faults; noriladle check prints all of the numbers",
                                            "a.csv: 100 lines refused, so nothing was written"]
 

@@ -16,6 +16,7 @@ from pathlib import Path
 from typing import Any, Dict, List, Sequence, Tuple
 
 from .. import Answer
+from .._shop import machine_language, speak
 
 RIGHT, REFUSED, WRONG_WORDS = 0, 1, 2
 """The exit statuses: all is well; something was refused, not found or not written; the arguments are wrong, or name a
@@ -24,6 +25,11 @@ file that cannot be read."""
 
 class WrongWords(Exception):
     """What is wrong with the arguments, in one line that says what to do. The command ends with status 2."""
+
+
+def speak_as_machine() -> None:
+    """Speaks the language of the machine from now on, if it is known."""
+    speak(machine_language())
 
 
 def tell(said: str) -> None:

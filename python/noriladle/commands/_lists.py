@@ -8,6 +8,7 @@ from typing import Dict
 from .._columns import MEANINGS
 from .._encodings import NAMES, encoding_of
 from .._lists import LIMIT
+from .._shop import told
 from . import WrongWords, tell
 
 
@@ -38,7 +39,7 @@ def columns_of(words: argparse.Namespace) -> Dict[str, str]:
 
     :raises WrongWords: a column has an unknown meaning.
     """
-    columns = {}
+    columns: Dict[str, str] = {}
     for word in words.column:
         meaning, _, heading = (part.strip() for part in word.partition("="))
         if meaning not in MEANINGS or not heading:
@@ -56,7 +57,7 @@ def columns_of(words: argparse.Namespace) -> Dict[str, str]:
 
 def name_of(words: argparse.Namespace) -> str:
     """The list's name for people."""
-    return "standard input" if words.list == "-" else str(words.list)
+    return told("input") if words.list == "-" else str(words.list)
 
 
 def read_list(words: argparse.Namespace) -> bytes:
@@ -66,7 +67,7 @@ def read_list(words: argparse.Namespace) -> bytes:
     """
     if words.list == "-":
         if sys.stdin.isatty():
-            tell("noriladle: type the list, and end it with Ctrl-D")
+            tell(told("typeList"))
         return sys.stdin.buffer.read(LIMIT + 1)
     try:
         with open(words.list, "rb") as file:

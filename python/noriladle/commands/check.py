@@ -3,28 +3,35 @@
 LIST is a CSV file with a heading or without, or has one text a line. A text is a GTIN, an element string as printed,
 (01)09501101530003(17)261231, or with ^ for the separator, ^10AB^17261231, or what a scanner sends, ]C110AB. Prints for
 each its line's number, the text, and what it says, or why it is refused and what to do, with tabs between. The status is
-1 if a line is refused.
+1 if a line is refused. --fix writes the list with the numbers that are clearly meant in place of ="4012345010008",
+4.012345010008E+12, EAN: 4012345010008, an ISBN of ten digits, or a number without its zeros in front.
 
   $ noriladle check supplier.csv
+  $ noriladle check supplier.csv --fix -o fixed.csv
 """
 from __future__ import annotations
 
 import argparse
 import json
 import sys
+from pathlib import Path
 from typing import Any, Dict, Iterator, NamedTuple, Optional, Tuple
 
 from .. import Ais, Answer, Refusal
 from .._columns import Table, table_of
 from .._lists import Faults, Record
 from .._texts import Unreadable, is_elements, read_text, remedy_of, stripped
-from . import REFUSED, RIGHT, Progress, add_ais, add_year, data_of, tell
+from .._shop import counted, told
+from .._fixing import csv_of, fixed
+from . import REFUSED, RIGHT, Progress, WrongWords, add_ais, add_year, data_of, speak_as_machine, tell, write_files
 from ._lists import add_list, columns_of, name_of, read_list
 
 
 def add_arguments(parser: argparse.ArgumentParser) -> None:
     """Adds the arguments of ``noriladle check``."""
     add_list(parser)
+    parser.add_argument("--fix", action="store_true", help="Write the list with its numbers corrected, as far as it is clear what they are")
+    parser.add_argument("-o", "--output", metavar="FILE", help="File of the corrected list, or - for standard output")
     parser.add_argument("--refused", action="store_true", help="Print only the lines that are refused")
     parser.add_argument("--json", action="store_true", help="Print a JSON object for each line")
     add_year(parser)
@@ -43,6 +50,9 @@ class Checked(NamedTuple):
 
 def run(words: argparse.Namespace) -> int:
     """Prints what each line of the list says."""
+    speak_as_machine()
+    if words.fix != bool(words.output):
+        raise WrongWords("--fix and -o FILE go together: write both, as in --fix -o fixed.csv")
     name = name_of(words)
     try:
         table = table_of(read_list(words), words.year, columns_of(words), words.encoding or "")
@@ -50,18 +60,41 @@ def run(words: argparse.Namespace) -> int:
         for fault in error.faults:
             tell(f"{name}:{fault.line}: {fault.said}")
         return REFUSED
-    for note in [*table.opened, *filter(None, [table.note])]:
+    for note in table.notes():
         tell(f"{name}: {note}")
+    if words.fix:
+        return _fix(table, name, words)
     status, progress = RIGHT, Progress()
     for checked in checked_lines(table, words.year, words.ais):
         if not sys.stdout.isatty():
-            progress(f"checking line {checked.line:,}")
+            progress(told("checking", f"{checked.line:,}"))
         if not checked.answer:
             status = REFUSED
         if not (checked.answer and words.refused):
             sys.stdout.write(f"{json.dumps(_data(checked), ensure_ascii=False) if words.json else _row(checked)}\n")
     progress.end()
     return status
+
+
+def _fix(table: Table, name: str, words: argparse.Namespace) -> int:
+    """Writes the corrected list, and reports what was changed and what is still refused."""
+    for fault in table.faults:
+        tell(f"{name}:{fault.line}: {fault.said}")
+    if table.faults:
+        return REFUSED
+    list_of, changes = fixed(table, words.year)
+    for line, before, after in changes:
+        tell(f"{name}:{line}: {told('fixed', ' '.join(before.split()), after)}")
+    refused = [checked for checked in checked_lines(list_of, words.year, words.ais) if not checked.answer]
+    for checked in refused:
+        tell(f"{name}:{checked.line}: {checked.refusal or told('refusedLine')}: {checked.remedy}")
+    text = csv_of(list_of)
+    if words.output == "-":
+        sys.stdout.write(text)
+    else:
+        write_files([(Path(words.output), text.encode("utf-8-sig"))])
+    tell(f"{counted('corrected', len(changes))}{'' if words.output == '-' else told('inFile', words.output)}")
+    return REFUSED if refused else RIGHT
 
 
 def checked_lines(table: Table, year: int, ais: Ais = "all") -> Iterator[Checked]:
@@ -104,9 +137,9 @@ def _row(checked: Checked) -> str:
 
 
 def _data(checked: Checked) -> Dict[str, Any]:
-    told: Dict[str, Any] = {"line": checked.line, "text": checked.text}
+    data: Dict[str, Any] = {"line": checked.line, "text": checked.text}
     if checked.answer:
-        return {**told, **data_of(checked.answer)}
+        return {**data, **data_of(checked.answer)}
     refusal = checked.refusal
-    return {**told, "refused": refusal.number if refusal else None, "name": refusal.name if refusal else None,
+    return {**data, "refused": refusal.number if refusal else None, "name": refusal.name if refusal else None,
             "place": refusal.place if refusal else None, "remedy": checked.remedy}

@@ -1,9 +1,10 @@
 """Make labels from a list: names, prices and barcodes on label stock
 
-LIST is a CSV file from any spreadsheet. Its headings say which column is gtin (or ean, upc) or gs1 (element strings), name,
+LIST is a CSV file or a spreadsheet, .xlsx or .ods. Its headings say which column is gtin (or ean, upc) or gs1 (element strings), name,
 price, copies, kind (ean13, upca, ean8, upce, itf14 or gs1128) and line 1, line 2, .. in English, German, French, Spanish,
 Italian, Dutch or Polish; a column of numbers without such a heading is found by its cells. If lines have errors, each is
-reported with what to do, nothing is written, and the status is 1. The end of FILE's name says the format: .pdf, .svg,
+reported with what to do, nothing is written, and the status is 1; --leave-out writes the labels of the others. If several
+columns may be the price, the command asks, and --column price=HEADING answers. The end of FILE's name says the format: .pdf, .svg,
 .png, or .zpl, .epl, .tspl for a label printer. Print a PDF file at 100 %.
 
   $ noriladle labels prices.csv --stock L7160 -o labels.pdf
@@ -15,7 +16,8 @@ import sys
 from pathlib import Path
 from typing import TYPE_CHECKING, Callable, Dict, List, Sequence, Tuple
 
-from . import REFUSED, RIGHT, Progress, WrongWords, add_year, tell, write_files
+from .._shop import counted, said, told
+from . import REFUSED, RIGHT, Progress, WrongWords, add_year, speak_as_machine, tell, write_files
 from ._lists import add_list, add_price, columns_of, name_of, read_list
 
 if TYPE_CHECKING:
@@ -46,6 +48,7 @@ def add_arguments(parser: argparse.ArgumentParser) -> None:
     parser.add_argument("--currency", default="", metavar="SIGN", help="Sign to put behind prices without one, such as €")
     add_list(parser)
     add_price(parser)
+    parser.add_argument("--leave-out", action="store_true", help="Leave out lines that have errors, and make the labels of the others")
     parser.add_argument("--font", metavar="TTF", help="TrueType file for the texts [default: Liberation Sans, or what is installed]")
     parser.add_argument("--bold", metavar="TTF", help="TrueType file for names and prices")
     add_year(parser)
@@ -72,7 +75,8 @@ def _shift(word: str) -> Tuple[float, float]:
 
 
 def run(words: argparse.Namespace) -> int:
-    """Writes the labels of a list, all or none."""
+    """Writes the labels of a list: all or none, unless faulty lines are left out."""
+    speak_as_machine()
     if words.stocks:
         from ..labels import KNOWN
         print("\n".join(f"{name}\t{text}" for name, text in KNOWN.items()))
@@ -83,23 +87,26 @@ def run(words: argparse.Namespace) -> int:
     columns, name = columns_of(words), name_of(words)
     dpi = words.dpi or (203 if form in _FOR_PRINTERS else 300)
     look = shop.Look(dpi, words.module, words.bars, words.bearers, words.turn)
-    progress = Progress()
+    progress, prices = Progress(), None
     try:
         stock, fonts = shop.stock_of(words.stock), shop.fonts_of(words.font, words.bold)
         prices = shop.read_list(read_list(words), words.year, columns, encoding=words.encoding or "",
                                 currency=words.currency, is_free=words.free)
+        if not prices.faults and not any(article.copies for article in prices.articles):
+            tell(f"{name}:1: {said('noLabels')}")
+            return REFUSED
         for note in prices.notes:
             tell(f"{name}: {note}")
         made = shop.make(
             prices, stock, words.year, look=look, start=words.start, currency=words.currency, fonts=fonts, shift=words.shift,
-            progress=lambda done, of: progress(f"drawing and checking: {100 * done // of} %"))
-        if not made.count:
-            raise shop.Faults([shop.Fault(1, "the list has no labels to print")])
-        progress(f"writing {made.sheets:,} pages")
+            leave_out=words.leave_out, progress=lambda done, of: progress(told("drawing", 100 * done // of)))
+        progress(told("writing", f"{made.sheets:,}"))
         files = _files(made, form, words)
     except shop.Faults as error:
         progress.end()
         _tell_faults(name, error.faults)
+        if prices:
+            tell(f"{name}: {counted('refused', len(error.faults))}")
         return REFUSED
     except ValueError as error:
         progress.end()
@@ -107,20 +114,20 @@ def run(words: argparse.Namespace) -> int:
     progress.end()
     _tell_warnings(name, made.warnings)
     _write(words.output, files)
-    pages = "" if form in _FOR_PRINTERS else f" on {_count(made.sheets, 'page')}"
-    tell(f"{_count(made.count, 'label')}{pages}{_where(words.output, files)}")
-    return RIGHT
+    if made.left_out:
+        for line, fault in made.left_out:
+            tell(f"{name}:{line}: {fault}")
+        tell(f"{name}: {counted('leftOut', len({line for line, _ in made.left_out}))}")
+    pages = "" if form in _FOR_PRINTERS else counted("onPages", made.sheets)
+    tell(f"{counted('labels', made.count)}{pages}{_where(words.output, files)}")
+    return REFUSED if made.left_out else RIGHT
 
 
 def _where(output: str, files: Sequence[Tuple[Path, bytes]]) -> str:
     """Where the labels are."""
     if output == "-":
         return ""
-    return f" in {files[0][0]}" if len(files) == 1 else f" in {files[0][0]} to {files[-1][0]}"
-
-
-def _count(number: int, thing: str) -> str:
-    return f"{number:,} {thing}{'' if number == 1 else 's'}"
+    return told("inFile", files[0][0]) if len(files) == 1 else told("inFiles", files[0][0], files[-1][0])
 
 
 def _form(words: argparse.Namespace) -> str:
@@ -171,21 +178,20 @@ def _write(output: str, files: Sequence[Tuple[Path, bytes]]) -> None:
 
 def _more(lines: Sequence[int]) -> str:
     """How many more lines have the same error."""
-    return f" (and {_count(len(lines) - 1, 'more line')})" if len(lines) > 1 else ""
+    return counted("more", len(lines) - 1) if len(lines) > 1 else ""
 
 
 def _tell_faults(name: str, faults: Sequence[Fault]) -> None:
     """Reports each error once, even if several lines have it."""
     lines: Dict[str, List[int]] = {}
-    for line, said in faults:
-        lines.setdefault(said, []).append(line)
-    for said, places in list(lines.items())[:_MOST_TOLD]:
-        tell(f"{name}:{places[0]}: {said}{_more(places)}")
+    for line, fault in faults:
+        lines.setdefault(fault, []).append(line)
+    for fault, places in list(lines.items())[:_MOST_TOLD]:
+        tell(f"{name}:{places[0]}: {fault}{_more(places)}")
     if len(lines) > _MOST_TOLD:
-        tell(f"{name}: and {_count(len(lines) - _MOST_TOLD, 'more fault')}; noriladle check prints all of the numbers")
-    tell(f"{name}: {_count(len(faults), 'line')} refused, so nothing was written")
+        tell(f"{name}: {counted('moreFaults', len(lines) - _MOST_TOLD)}")
 
 
 def _tell_warnings(name: str, warnings: Sequence[LabelWarning]) -> None:
-    for lines, said in warnings:
-        tell(f"{name}:{lines[0]}: warning: {said}{_more(lines)}")
+    for lines, warning in warnings:
+        tell(f"{name}:{lines[0]}: {told('warning', warning)}{_more(lines)}")

@@ -21,7 +21,7 @@ from PIL import Image
 from .. import Refusal, find
 from .._columns import Table, table_of
 from .._lists import Fault, Faults
-from .._shop import said
+from .._shop import said, sentence_of_lines, told
 from .._texts import remedy_of
 from ._articles import Article, articles_of
 from ._dots import epl_of, image_of, png_of, tspl_of, zpl_of
@@ -72,6 +72,8 @@ class Labels:
     """The cell of the first sheet that the first label is in, from 0."""
     shift: Tuple[float, float] = (0.0, 0.0)
     """How far all labels are moved to the right and down, in mm."""
+    left_out: Tuple[Fault, ...] = ()
+    """The lines of the list that have no label, since they have an error."""
 
     @property
     def warnings(self) -> List[LabelWarning]:
@@ -162,31 +164,19 @@ def read_list(
 def _notes(table: Table, articles: Sequence[Article]) -> List[str]:
     """What a person should know of how a list was read."""
     unpriced = [article.line for article in articles if not article.price] if "price" in table.places else []
-    return [*filter(None, [*table.opened, table.note]),
-            *([said("unused", ", ".join(table.unused))] if table.unused else []),
-            *_lines("passed", table.passed), *_lines("unpriced", unpriced)]
-
-
-def _lines(text: str, lines: Sequence[int]) -> List[str]:
-    """A sentence about some lines, or nothing if there are none. Lines in a row are written as 4-9."""
-    runs: List[List[int]] = []
-    for line in lines:
-        if runs and runs[-1][-1] + 1 == line:
-            runs[-1].append(line)
-        else:
-            runs.append([line])
-    shown = ", ".join(f"{run[0]}-{run[-1]}" if len(run) > 1 else str(run[0]) for run in runs)
-    return [said(text if len(lines) > 1 else f"{text}1", shown)] if lines else []
+    unused = [said("unused", ", ".join(table.unused))] if table.unused else []
+    return [*table.notes(), *unused, *sentence_of_lines("unpriced", unpriced)]
 
 
 def make(
     prices: PriceList, stock: Stock, year: int, *, look: Look = Look(), start: int = 1, currency: str = "",
-    fonts: Optional[Fonts] = None, shift: Tuple[float, float] = (0.0, 0.0), progress: Progress = lambda done, of: None
+    fonts: Optional[Fonts] = None, shift: Tuple[float, float] = (0.0, 0.0), leave_out: bool = False,
+    progress: Progress = lambda done, of: None
 ) -> Labels:
     """The labels of a list. ``start`` is the first free cell of the first sheet, from 1. The currency follows prices that are
-    only numbers.
+    only numbers. With ``leave_out`` the lines that have an error are left out.
 
-    :raises Faults: lines have an error, no symbol, no room, or characters that the font lacks.
+    :raises Faults: lines have an error, no symbol, no room, or characters that the font lacks; or the list has no labels.
     :raises ValueError: the sheet has no such cell, or there are more than :data:`MOST_LABELS` labels.
     """
     if not 1 <= start <= stock.cells:
@@ -197,16 +187,18 @@ def make(
     articles = [_priced(article, currency) for article in prices.articles]
     items, faults = _each(articles, articles, lambda article: _item(article, cell, used, look, year),
                           lambda done, of: progress(done, 2 * of))
-    if faults or prices.faults:
-        raise Faults(sorted([*prices.faults, *faults]))
+    left = sorted([*prices.faults, *faults])
+    if left and not leave_out:
+        raise Faults(left)
     # Cases have other labels than articles.
     plans = {is_retail: plan_of([item for item in items if item.is_retail is is_retail], cell, used, look)
              for is_retail in (True, False)}
-    drawings, faults = _each(articles, items, lambda item: _checked(item, plans[item.is_retail], year),
+    drawings, faults = _each([item.article for item in items], items, lambda item: (item.article, _checked(item, plans[item.is_retail], year)),
                              lambda done, of: progress(of + done, 2 * of))
-    if faults:
-        raise Faults(faults)
-    return Labels(tuple(zip(articles, drawings)), stock, look, start - 1, shift)
+    left = sorted([*left, *faults])
+    if faults and not leave_out or not sum(article.copies for article, _ in drawings):
+        raise Faults(left or [Fault(1, said("noLabels"))])
+    return Labels(tuple(drawings), stock, look, start - 1, shift, tuple(left))
 
 
 def _priced(article: Article, currency: str) -> Article:
@@ -217,7 +209,7 @@ def _priced(article: Article, currency: str) -> Article:
 def _each(
     articles: Sequence[Article], given: Sequence[_Given], call: Callable[[_Given], _Made], progress: Progress
 ) -> Tuple[List[_Made], List[Fault]]:
-    """What is made for each article, and what is wrong with those for which it is not."""
+    """What is made for each article, and what is wrong with those for which nothing is."""
     made, faults = [], []
     for done, (article, one) in enumerate(zip(articles, given), 1):
         try:
@@ -231,8 +223,7 @@ def _each(
 def _item(article: Article, cell: Cell, fonts: Fonts, look: Look, year: int) -> Item:
     lacking = fonts.bold.lacks("".join((article.name, article.price, *article.lines)))
     if lacking:
-        raise ValueError(f"{', '.join(map(repr, lacking[:5]))} cannot be set in {fonts.bold.name}: name another font by --font, or "
-                         "leave it out; combining signs and scripts from right to left are not set at all")
+        raise ValueError(told("notSet", ", ".join(map(repr, lacking[:5])), fonts.bold.name))
     try:
         bars = bars_of(article.kind, article.text, year)
     except Refusal as refusal:

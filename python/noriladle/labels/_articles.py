@@ -4,14 +4,14 @@ from __future__ import annotations
 import re
 import unicodedata
 from dataclasses import dataclass
-from typing import Dict, List, Optional, Sequence, Tuple
+from typing import Dict, List, Optional, Set, Tuple
 
 from .. import Answer, Kind, Refusal
-from .._amounts import Amounts
+from .._amounts import Amounts, price_like
 from .._columns import Table
 from .._lists import Fault, Record
 from .._shop import said
-from .._texts import Unreadable, digits_of, element_string, is_elements, read_text, remedy_of, stripped
+from .._texts import Unreadable, digits_of, element_string, is_elements, looks_right, read_text, remedy_of, stripped
 
 _BY_LENGTH = {8: Kind.EAN8, 12: Kind.UPCA, 13: Kind.EAN13, 14: Kind.ITF14}
 """The kind of barcode for a GTIN of this many digits, if the list names no kind."""
@@ -42,55 +42,81 @@ def articles_of(table: Table, year: int, currency: str = "", is_free: bool = Fal
     """The articles of a table, and the errors of its other lines. The prices have the decimals of the currency; zero is one
     if articles may be free."""
     amounts = Amounts([_line(table.cell(record, "price")) for record in table.records], table.heading, currency, is_free)
-    is_split = _are_split(table)
+    widths, numbers = _Widths(table), _Numbers()
     articles, faults = [], list(table.faults)
     for record in table.records:
         try:
-            _check_width(table, record, is_split)
-            articles.append(_article(table, record, year, amounts))
+            kind, printed, answer = _number(table, record, year)
         except ValueError as error:
             faults.append(Fault(record.line, str(error)))
-    doubles = _doubles(articles)
-    return [it for it in articles if it.line not in doubles], sorted([*faults, *doubles.values()])
+            numbers.doubt(record, year)
+            continue
+        numbers.add(record.line, printed, (_plain(table.cell(record, "name")), _line(table.cell(record, "price"))))
+        try:
+            widths.check(record)
+            articles.append(_article(table, record, (kind, printed, answer), amounts))
+        except ValueError as error:
+            faults.append(Fault(record.line, str(error)))
+    for record in table.lost:
+        numbers.doubt(record, year)
+    faults += numbers.faults({fault.line for fault in faults})
+    lines = {fault.line for fault in faults}
+    return [it for it in articles if it.line not in lines], sorted(faults)
 
 
-def _doubles(articles: Sequence[Article]) -> Dict[int, Fault]:
-    """The errors of the lines that have one number with several names or prices."""
-    first: Dict[str, Article] = {}
-    faults: Dict[int, Fault] = {}
-    for article in articles:
-        before = first.setdefault(article.text, article)
-        if (before.name, before.price) != (article.name, article.price):
-            faults[article.line] = Fault(article.line, said("sameNumber", before.line))
-            faults.setdefault(before.line, Fault(before.line, said("sameNumber", article.line)))
-    # Another line may agree with the first one, whose number is in doubt now.
-    for article in articles:
-        if first[article.text].line in faults:
-            faults.setdefault(article.line, Fault(article.line, said("sameNumber", first[article.text].line)))
-    return faults
+class _Numbers:
+    """The numbers of a list, each with what its lines say of the article."""
+
+    def __init__(self) -> None:
+        self._found: Dict[str, List[Tuple[int, Tuple[str, str]]]] = {}
+
+    def add(self, line: int, number: str, article: Tuple[str, str]) -> None:
+        """Notes the name and the price of a number."""
+        self._found.setdefault(number, []).append((line, article))
+
+    def doubt(self, record: Record, year: int) -> None:
+        """Notes all numbers of a record that cannot be read, since it may be of the same article."""
+        for cell in filter(looks_right, record.cells):
+            try:
+                gtin = read_text(cell, year).gtin
+            except (Refusal, Unreadable):
+                continue
+            self.add(record.line, gtin or "", ("", f"\0{record.line}"))
+
+    def faults(self, known: Set[int]) -> List[Fault]:
+        """The errors of all lines whose number has several names or prices, except those that have an error already."""
+        doubles = [its for its in self._found.values() if len({article for _, article in its}) > 1]
+        return [Fault(line, said("sameNumber", its[0][0] if line != its[0][0] else its[1][0]))
+                for its in doubles for line, _ in its if line not in known]
 
 
-def _check_width(table: Table, record: Record, is_split: bool) -> None:
-    """Looks for cells that belong to no column, and for a price that its decimal comma split.
+class _Widths:
+    """How many cells the lines of a table have, and what that says of their prices."""
 
-    :raises ValueError: there are some.
-    """
-    beyond = [cell for cell in record.cells[table.width:] if cell.strip()]
-    place = next(iter(table.places.get("price", ())), len(record.cells))
-    behind = record.cells[place:place + 2]
-    if len(behind) == 2 and table.delimiter == "," and (is_split or len(record.cells) > table.width) and _is_half(*behind):
-        raise ValueError(said("splitPrice", _short(_line(behind[0])), _short(_line(behind[1]))))
-    if beyond:
-        raise ValueError(said("beyond", _short(_line(beyond[0])), len(record.cells), table.width))
+    def __init__(self, table: Table) -> None:
+        self._table = table
+        self._place = next(iter(table.places.get("price", ())), None)
+        self._are_split, self._is_risky = False, False
+        if self._place is not None:
+            pairs = [pair for pair in (it.cells[self._place:self._place + 2] for it in table.records) if pair and pair[0].strip()]
+            self._are_split = table.delimiter == "," and bool(pairs) and all(len(pair) == 2 and _is_half(*pair) for pair in pairs)
+            have_decimals = any(map(_has_decimals, (pair[0] for pair in pairs)))
+            self._is_risky = any(_has_decimals(pair[1]) or not have_decimals and re.search("[0-9]", pair[1]) for pair in pairs if len(pair) == 2)
 
+    def check(self, record: Record) -> None:
+        """Looks for cells that belong to no column, for a price that its comma split, and for a missing cell.
 
-def _are_split(table: Table) -> bool:
-    """Whether all prices look like halves: whole numbers, with two digits in the next cell."""
-    place = next(iter(table.places.get("price", ())), None)
-    if place is None or table.delimiter != ",":
-        return False
-    pairs = [record.cells[place:place + 2] for record in table.records if "".join(record.cells[place:place + 1]).strip()]
-    return bool(pairs) and all(len(pair) == 2 and _is_half(*pair) for pair in pairs)
+        :raises ValueError: there are some.
+        """
+        count, width = len(record.cells), self._table.width
+        beyond = [cell for cell in record.cells[width:] if cell.strip()]
+        behind = record.cells[self._place:self._place + 2] if self._place is not None else []
+        if len(behind) == 2 and self._table.delimiter == "," and (self._are_split or count > width) and _is_half(*behind):
+            raise ValueError(said("splitPrice", _short(_line(behind[0])), _short(_line(behind[1]))))
+        if beyond:
+            raise ValueError(said("beyond", _short(_line(beyond[0])), count, width))
+        if count < self._table.shortest and (self._is_risky or self._place is not None and count <= self._place):
+            raise ValueError(said("missingCell", count, self._table.shortest))
 
 
 def _is_half(price: str, behind: str) -> bool:
@@ -98,19 +124,29 @@ def _is_half(price: str, behind: str) -> bool:
     return bool(re.fullmatch(r"[^0-9.,]*[0-9]{1,7}", price.strip()) and re.fullmatch(r"[0-9]{2}[^0-9.,]*", behind.strip()))
 
 
-def _article(table: Table, record: Record, year: int, amounts: Amounts) -> Article:
-    """The article of a record. A missing cell counts as empty."""
+def _has_decimals(cell: str) -> bool:
+    return bool(re.search("[0-9][.,][0-9]{1,2}([^0-9]|$)", cell))
+
+
+def _number(table: Table, record: Record, year: int) -> Tuple[Kind, str, Answer]:
+    """The kind of a record's barcode, its number or element string, and what it says."""
     gtin, elements = stripped(table.cell(record, "gtin")), stripped(table.cell(record, "gs1"))
     if gtin and elements:
         raise ValueError(said("twoNumbers"))
     if not gtin and not elements:
         raise ValueError(said("noNumber"))
     text = gtin or (elements if is_elements(elements) or elements[0] == "]" else f"^{elements}")
-    kind, printed, answer = _symbol(text, _kind(_plain(table.cell(record, "kind"))), year)
+    return _symbol(text, _kind(_plain(table.cell(record, "kind"))), year)
+
+
+def _article(table: Table, record: Record, number: Tuple[Kind, str, Answer], amounts: Amounts) -> Article:
+    """The article of a record with this number. A missing cell counts as empty."""
     lines = tuple(_line(record.cells[place]) for place in table.places.get("line", ()) if place < len(record.cells))
     name, price = _plain(table.cell(record, "name")), _line(table.cell(record, "price"))
+    if price_like(name):
+        raise ValueError(said("nameIsPrice", _short(name)))
     copies = _copies(table.cell(record, "copies").strip())
-    return Article(record.line, kind, printed, answer, name, amounts.printed(price) if price else "", tuple(filter(None, lines)), copies)
+    return Article(record.line, *number, name, amounts.printed(price) if price else "", tuple(filter(None, lines)), copies)
 
 
 def _symbol(text: str, kind: Optional[Kind], year: int) -> Tuple[Kind, str, Answer]:

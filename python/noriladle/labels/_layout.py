@@ -6,7 +6,7 @@ from dataclasses import dataclass
 from typing import Callable, List, NamedTuple, Sequence, Tuple
 
 from .. import Kind
-from .._shop import said
+from .._shop import said, told
 from ._articles import Article
 from ._drawing import DOTS_IN_MM, RESOLUTIONS, Box, Cell, Drawing, Look, Text, Warned
 from ._fonts import PITCH, Block, Fonts, fitted
@@ -86,7 +86,7 @@ def _too_wide(bars: Bars, cell: Cell) -> str:
     if _needed(bars, least, aside) <= cell.width / cell.dots:
         ways.append(f"{said('finer', finest)} (--dpi {finest})")
     if _needed(bars, module, cell.above / cell.dots) <= cell.high_mm:
-        ways.append("turn it by --turn")
+        ways.append(told("turn"))
     if bars.kind is Kind.GS1128:
         ways.append(said("fewer"))
     return said("tooWide", f"{cell.width / cell.dots:.1f}", f"{module:.3f}", f"{module * bars.modules:.1f}", "; or ".join(ways))
