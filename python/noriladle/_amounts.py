@@ -46,7 +46,8 @@ class Amounts:
         self._is_cents, self._is_free = bool(heading and heading.is_cents), is_free
         written = [it for it in map(_written, cells) if it and it.point and (it.group or len(it.fraction) != 3)]
         points = {it.point for it in written}
-        self._point = points.pop() if len(points) == 1 else ""
+        self.point = points.pop() if len(points) == 1 else ""
+        """What all decimals of the column have before them; nothing if cells differ, or none has decimals."""
 
     def printed(self, cell: str) -> str:
         """The price of a cell as it is printed: with the decimals of its currency.
@@ -69,7 +70,7 @@ class Amounts:
         if price.group or price.fraction or price.dash or price.currency:
             raise ValueError(said("notCents", _short(cell)))
         digits = price.whole.zfill(3)
-        return price._replace(whole=digits[:-2], point=self._point or decimal_sign(), fraction=digits[-2:])
+        return price._replace(whole=digits[:-2], point=self.point or decimal_sign(), fraction=digits[-2:])
 
     def _in_full(self, price: _Written, cell: str) -> _Written:
         """A price with the decimals of its currency.
@@ -84,7 +85,7 @@ class Amounts:
         fraction = price.fraction[:decimals].ljust(decimals, "0")
         if price.fraction[decimals:].strip("0"):
             raise ValueError(said("decimalsOfPrice", _short(cell), decimals, f"{price.whole}{price.point}{fraction}"))
-        point = price.point or self._point or decimal_sign()
+        point = price.point or self.point or decimal_sign()
         if point == price.group:
             point = "," if point == "." else "."
         return price._replace(point=point, fraction=fraction)
@@ -94,7 +95,7 @@ class Amounts:
 
         :raises ValueError: they do not.
         """
-        if decimals and self._point in ("", price.point):
+        if decimals and self.point in ("", price.point):
             full = f"{price.whole}{price.fraction}{price.point}{'0' * decimals}"
             raise ValueError(said("twoAmounts", _short(cell), full, f"{price.whole}{price.point}{price.fraction[:2]}"))
         return price._replace(whole=f"{price.whole}{price.point}{price.fraction}", group=price.point, point="", fraction="")

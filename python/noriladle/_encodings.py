@@ -92,9 +92,11 @@ def _page(data: bytes) -> str:
     hints = _hinted(data)
     letters = {page: it for page in _PAGES for it in [_letters([_text(word, page) for word in words])] if it is not None}
     fitting = [page for page, its in letters.items() if any(its <= _ALL[name] for name in _languages(page, hints))]
-    if not fitting:
-        mixed = [page for page, its in letters.items() if its <= _GROUPS[page]]
-        fitting = mixed[:1] if hints and hints <= _NATIVE[_USUAL] and mixed[:1] == [_USUAL] else mixed
+    mixed = [page for page, its in letters.items() if its <= _GROUPS[page]]
+    if not fitting and hints and hints <= _NATIVE[_USUAL] and _USUAL in mixed:
+        fitting = [_USUAL]
+    elif not {*fitting} & {*_WINDOWS}:
+        fitting = [page for page in _PAGES if page in fitting or page in mixed]
     if not fitting:
         raise Faults([Fault(1, told("by", said("noEncoding"), f"--encoding {next(iter(_PAGES))}"))])
     if len({tuple(_text(word, page) for word in words) for page in fitting}) > 1:

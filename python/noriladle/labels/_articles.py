@@ -42,7 +42,7 @@ def articles_of(table: Table, year: int, currency: str = "", is_free: bool = Fal
     """The articles of a table, and the errors of its other lines. The prices have the decimals of the currency; zero is one
     if articles may be free."""
     amounts = Amounts([_line(table.cell(record, "price")) for record in table.records], table.heading, currency, is_free)
-    widths, numbers = _Widths(table), _Numbers()
+    widths, numbers = _Widths(table, amounts.point), _Numbers()
     articles, faults = [], list(table.faults)
     for record in table.records:
         try:
@@ -93,8 +93,8 @@ class _Numbers:
 class _Widths:
     """How many cells the lines of a table have, and what that says of their prices."""
 
-    def __init__(self, table: Table) -> None:
-        self._table = table
+    def __init__(self, table: Table, point: str) -> None:
+        self._table, self._point = table, point
         self._place = next(iter(table.places.get("price", ())), None)
         self._are_split, self._is_risky = False, False
         if self._place is not None:
@@ -113,6 +113,8 @@ class _Widths:
         behind = record.cells[self._place:self._place + 2] if self._place is not None else []
         if len(behind) == 2 and self._table.delimiter == "," and (self._are_split or count > width) and _is_half(*behind):
             raise ValueError(said("splitPrice", _short(_line(behind[0])), _short(_line(behind[1]))))
+        if len(behind) and self._table.delimiter == self._point and re.fullmatch("[0-9]{1,7}", behind[0].strip()):
+            raise ValueError(said("wholePrice", behind[0].strip()))
         if beyond:
             raise ValueError(said("beyond", _short(_line(beyond[0])), count, width))
         if count < self._table.shortest and (self._is_risky or self._place is not None and count <= self._place):
