@@ -104,6 +104,8 @@ def plain(heading: str) -> str:
 
 def _known(heading: str) -> Tuple[str, int]:
     """What a heading means, if it or one of its words is known, and its rank: a lower one is better."""
+    if re.search(r"\d{7}", heading):
+        return "", 0  # A number with a word beside it, such as EAN: 4012345010008.
     price = price_of(heading)
     if price:
         return ("", 0) if price.reason else ("price", 0)
@@ -148,7 +150,8 @@ class _Look:
 
         :raises Faults: nobody can say which is meant.
         """
-        found = {meaning: [it for it in its if self._has_cells(it[1])] or its
+        # An empty column gives way to one that has cells.
+        found = {meaning: meaning != "line" and [it for it in its if self._has_cells(it[1])] or its
                  for meaning, its in self._meanings(self.first, own).items()}
         for meaning in {*_ONCE} - self.asked.keys() - self.none:
             best, *others = sorted(found.get(meaning, ())) or [(0, 0)]
@@ -211,23 +214,25 @@ class _Look:
             note = told("tookLine", self.first.line)
         question = None if "price" in places or "price" in self.none else self._question(choice, has_heading, places)
         numbers = [place for meaning in ("gtin", "gs1") for place in places.get(meaning, ())]
-        wide = self._width(has_heading)
-        lines = set() if is_lines else {record.line for record in records if self._has_no_number(record, numbers, wide)}
+        wide, shortest = self._width(has_heading), self._shortest()
+        lines = set() if is_lines else {record.line for record in records if self._has_no_number(record, numbers, wide, shortest)}
         price = places.get("price", ())
         heading = price_of(self.first.cells[price[0]]) if price and has_heading and price[0] < len(self.first.cells) else None
         return Table([record for record in records if record.line not in lines], places, self.sheet.faults, note, self.sheet.delimiter,
-                     wide, self._shortest(records), question, heading, self._unused(places, records, has_heading), self.sheet.lost, sorted(lines), self.sheet.records)
+                     wide, shortest, question, heading, self._unused(places, records, has_heading), self.sheet.lost, sorted(lines), self.sheet.records)
 
-    def _has_no_number(self, record: Record, numbers: Sequence[int], wide: int) -> bool:
-        """Whether a record is a category or a total: it has nothing like a number in its columns, nor one elsewhere."""
+    def _has_no_number(self, record: Record, numbers: Sequence[int], wide: int, shortest: int) -> bool:
+        """Whether a record is a category or a total: it has nothing like a number in its columns, nor one elsewhere, and no
+        cell is missing."""
         cells = [record.cells[place] for place in numbers if place < len(record.cells)]
-        return (not re.search(r"[\d#]", " ".join(cells)) and not any(cell.strip() for cell in record.cells[wide:])
+        is_short = len(record.cells) < shortest and sum(bool(cell.strip()) for cell in record.cells) > 1
+        return (not is_short and not re.search(r"[\d#]", " ".join(cells)) and not any(cell.strip() for cell in record.cells[wide:])
                 and not any(looks_right(cell) and _is_right(cell, self.year) for cell in record.cells))
 
-    def _shortest(self, records: Sequence[Record]) -> int:
-        """How many cells a record of a text has, if none is missing: as many as most have."""
-        usual = Counter(len(record.cells) for record in records[:_SAMPLE])
-        return max(usual, key=lambda count: (usual[count], count), default=0) if self.sheet.delimiter != SPREADSHEET else 0
+    def _shortest(self) -> int:
+        """How many cells a record of a text has, if none is missing: as many as most have, with the heading."""
+        usual = Counter(len(record.cells) for record in self.sample)
+        return max(usual, key=lambda count: (usual[count], count)) if self.sheet.delimiter != SPREADSHEET else 0
 
     def _width(self, has_heading: bool) -> int:
         """How many cells a record may have: as many as the heading, or else as most have."""

@@ -174,6 +174,103 @@ def test_of_many_faults_the_first_are_told(folder, capsys):
                                            "a.csv: 100 lines refused, so nothing was written"]
 
 
+# ---- prices, questions, and lists that are put right
+
+PRICES = "EAN;Artikel;Preis;UVP\n4012345010008;Haferkekse;2,9;3,50\n96385074;Kaugummi;0,90;1,10\n"
+
+
+def test_a_question_about_the_price(folder, capsys):
+    pytest.importorskip("reportlab")
+    save("a.csv", PRICES)
+    question = "a.csv:1: 'Preis', 'UVP' may each be the price on the shelf: say which it is, as in --column price='Preis', or --no-price"
+    assert told(["labels", "a.csv", "-o", "a.svg"], capsys) == (1, [], [question]) and os.listdir() == ["a.csv"]
+    for words, price, note in ((["--column", "price=UVP"], "3,50", "a.csv: not printed: 'Preis'"),
+                               (["--column", "price=3"], "2,90", "a.csv: not printed: 'UVP'"), (["--no-price"], None, "a.csv: not printed: 'Preis', 'UVP'")):
+        status, out, err = told(["labels", "a.csv", "-o", "a.svg", *words], capsys)
+        assert (status, out, err[0]) == (0, [], note)
+        with open("a.svg", encoding="utf-8") as file:
+            assert (f">{price}<" in (text := file.read())) is bool(price) and ("3,50" in text) is (price == "3,50")
+
+
+@pytest.mark.parametrize("words, said", [
+    (["--column", "price=VK"], "a.csv:1: no column is headed 'VK'; there are 'EAN', 'Artikel', 'Preis', 'UVP'"),
+    (["--column", "price=9"], "a.csv:1: there is no column 9 for price: the list has 4"),
+    (["--no-price", "--column", "price=UVP"], "noriladle: --no-price and --column price do not go together: leave one out"),
+    (["--column", "price=UVP", "--column", "price=Preis"], "noriladle: --column price=Preis: the price is already 'UVP'"),
+    (["--encoding", "klingon"], "noriladle labels: argument --encoding: 'klingon' is none of utf-8, utf-16, cp1252, cp1250, cp850, mac_roman; "
+     "see noriladle labels --help"),
+])
+def test_wrong_answers(words, said, folder, capsys):
+    pytest.importorskip("reportlab")
+    save("a.csv", PRICES)
+    assert told(["labels", "a.csv", "-o", "a.pdf", *words], capsys)[2] == [said] and os.listdir() == ["a.csv"]
+
+
+def test_free_articles(folder, capsys):
+    pytest.importorskip("reportlab")
+    save("a.csv", "ean;price\n96385074;0\n")
+    assert told(["labels", "a.csv", "-o", "a.svg"], capsys)[2][0] == (
+        "a.csv:2: '0' is a price of zero: correct it, or say that zeros are printed (--free)")
+    assert told(["labels", "a.csv", "-o", "a.svg", "--free"], capsys)[0] == 0
+
+
+def test_lines_that_are_left_out(folder, capsys):
+    pytest.importorskip("reportlab")
+    save("a.csv", "ean;name;price\n4012345010008;Kekse;2,90\n96385075;a;1\n96385074;שלום;1\n9501101530003;b;x\n012345000065;c;1\n012345000065;d;1\n")
+    status, out, err = told(["labels", "a.csv", "-o", "a.svg", "--leave-out"], capsys)
+    assert (status, out) == (1, [])
+    assert [line.split(": ")[0] for line in err if "warning" not in line] == ["a.csv:3", "a.csv:4", "a.csv:5", "a.csv:6", "a.csv:7", "a.csv", "1 label on 1 page in a.svg"]
+    assert err[-2] == "a.csv: 5 lines left out"
+    save("a.csv", "ean;price\n96385075;1\n")
+    assert told(["labels", "a.csv", "-o", "b.svg", "--leave-out"], capsys)[2][-1] == "a.csv: 1 line refused, so nothing was written"
+    assert sorted(os.listdir()) == ["a.csv", "a.svg"]
+
+
+def test_a_list_is_corrected(folder, capsys):
+    cells = ['"=""4012345010008"""', "'4012345010008", "EAN: 4012345010008", "4,012345010008E+12", "12345000065", "3-16-148410-X", "４０１２３４５０１０００８",
+             "4012345010008", "4012345010375"]
+    save("a.csv", "Preisliste;\nEAN;Name\n" + "".join(f"{cell};x\n" for cell in cells) + "Summe;\n")
+    status, out, err = told(["check", "a.csv", "--fix", "-o", "b.csv"], capsys)
+    assert (status, out) == (1, [])
+    assert err[-2:] == ["a.csv:11: refused 3 CheckDigit: a digit is wrong; if it is the last one, 4012345010374 is right", "7 lines corrected in b.csv"]
+    assert "a.csv:6: '4,012345010008E+12' is 4012345010008" in err and "a.csv: 1 line without a number is passed over: 12" in err
+    with open("b.csv", encoding="utf-8-sig") as file:
+        rows = [line.split(";")[0] for line in file.read().splitlines()]
+    assert rows == ["Preisliste", "EAN", *["4012345010008"] * 4, "012345000065", "9783161484100", "4012345010008", "4012345010008", "4012345010375", "Summe"]
+    assert told(["check", "b.csv", "--fix", "-o", "-"], capsys)[1][2] == "4012345010008;x"
+    for words in (["--fix"], ["-o", "b.csv"]):
+        assert told(["check", "a.csv", *words], capsys) == (2, [], ["noriladle: --fix and -o FILE go together: write both, as in --fix -o fixed.csv"])
+
+
+@pytest.mark.parametrize("text, told_of", [
+    ("401234500002", "it may be 4012345000023, if its check digit is missing; 401234500005, if the last digit is wrong"),
+    ("4O12345010008", "'O' is the letter O: write a zero, as in 4012345010008"), ("316148410X", "an ISBN of ten digits: write 9783161484100"),
+    ("9638507", "the check digit is missing: compare 96385074 with the box"), ("EAN: 4012345010008", "write 4012345010008"),
+    ("1234565", "01234565 is right; it may also be 12345656, if its check digit is missing"), ("0000000000000", "a number of zeros alone"),
+    ("4012345010009", "a digit is wrong; if it is the last one, 4012345010008 is right"), ("4.01234501E+12", "has rounded it"),
+])
+def test_advice(text, told_of, folder, capsys):
+    save("a", f"{text}\n")
+    status, (line,), _ = told(["check", "a"], capsys)
+    assert status == 1 and told_of in line
+
+
+def test_german_where_the_machine_speaks_it(folder, capsys, monkeypatch):
+    pytest.importorskip("reportlab")
+    monkeypatch.setenv("LC_ALL", "de_AT.UTF-8")
+    save("a.csv", PRICES.replace("96385074", "96385075"))
+    assert told(["labels", "a.csv", "-o", "a.pdf"], capsys)[2] == [
+        "a.csv:1: „Preis“, „UVP“ können jeweils der Preis am Regal sein: bitte auswählen, etwa mit --column price='Preis' oder --no-price",
+        "a.csv:3: 96385075: refused 3 CheckDigit: eine Ziffer ist falsch; falls es die letzte ist, ist 96385074 richtig"]
+    assert told(["labels", "a.csv", "-o", "a.pdf", "--no-price", "--leave-out"], capsys)[2][-2:] == [
+        "a.csv: 1 Zeile weggelassen", "1 Etikett auf 1 Seite in a.pdf"]
+    assert told(["check", "a.csv"], capsys)[1][1].endswith("falls es die letzte ist, ist 96385074 richtig")
+    save("b.png", b"no picture")
+    assert told(["read", "b.png"], capsys)[2] == ["b.png: das ist kein Bild, das gelesen wird: JPEG, PNG, TIFF, PBM, PGM, PPM, BMP, GIF, WebP und PDF sind es"]
+    monkeypatch.setenv("LC_ALL", "fr_FR.UTF-8")
+    assert told(["labels", "a.csv", "-o", "a.pdf"], capsys)[2][0].startswith("a.csv:1: 'Preis', 'UVP' may each")
+
+
 def test_stocks(capsys):
     status, out, _ = told(["labels", "--stocks"], capsys)
     assert status == 0 and "L7160\t3x7:63.5x38.1+2.54+0" in out and "11354\t57x32" in out

@@ -157,7 +157,9 @@ def files_of(form, *words):
     for old in os.listdir(WORK):
         if old.endswith(f".{form}"):
             os.unlink(os.path.join(WORK, old))
-    noriladle("labels", *words, "--year", YEAR, "-o", os.path.join(WORK, f"labels.{form}"))
+    # Labels of cases have no price.
+    options = ["--no-price"] if words[0].endswith("cases.csv") else []
+    noriladle("labels", *words, *options, "--year", YEAR, "-o", os.path.join(WORK, f"labels.{form}"))
     return sorted(os.path.join(WORK, name) for name in os.listdir(WORK) if name.endswith(f".{form}"))
 
 

@@ -21,7 +21,8 @@ import zlib
 from typing import TYPE_CHECKING, Any, Iterator, List, NamedTuple, Optional, Tuple
 
 from .. import Refusal, Symbol
-from . import REFUSED, RIGHT, WRONG_WORDS, Progress, add_ais, add_year, data_of, tell
+from .._shop import said, told
+from . import REFUSED, RIGHT, WRONG_WORDS, Progress, add_ais, add_year, data_of, speak_as_machine, tell
 
 if TYPE_CHECKING:
     from PIL import Image
@@ -32,16 +33,6 @@ DPI = 300
 _PATIENCE = 60
 """How many seconds pdftoppm may take for a page."""
 _MOST_PAGES, _MOST_BYTES = 10_000, 1_000_000_000
-_KINDS = "EAN, UPC, ITF-14 and GS1-128 are read, QR Codes and DataMatrix are not"
-_NEARER = "come nearer, until a narrow bar has 1.5 pixels or more, and hold still"
-_ADVICE = {
-    21: "leave light at both ends of the bars, five times as wide as a narrow bar",
-    22: f"bars are seen, but not clearly: {_NEARER}",
-    23: f"bars are seen, but not clearly: {_NEARER}",
-    24: f"a digit is not clear, or a wrong number was printed: {_NEARER}",
-    13: f"a character is not clear, or damaged: {_NEARER}",
-}
-"""What to do about a picture whose furthest row has this error: blur and small bars look like damage in a row."""
 _DAMAGES = (OSError, ValueError, SyntaxError, EOFError, IndexError, KeyError, TypeError, struct.error, zlib.error)
 """What Pillow raises for damaged files."""
 _PHOTOS_OF_TELEPHONES = (b"ftypheic", b"ftypheix", b"ftyphevc", b"ftypmif1", b"ftypmsf1", b"ftypavif")
@@ -73,6 +64,7 @@ class Unopened(Exception):
 
 def run(words: argparse.Namespace) -> int:
     """Reads each picture, and prints a line for each barcode."""
+    speak_as_machine()
     from .. import picture  # Says what you must install, before it opens any file.
 
     # Pillow warns about damage that does not keep it from reading.
@@ -81,20 +73,20 @@ def run(words: argparse.Namespace) -> int:
     for count, name in enumerate(words.pictures, 1):
         try:
             for page in _pages_of(name):
-                progress(f"reading {page} ({count} of {len(words.pictures)})", at_once=is_later)
+                progress(told("reading", page, count, len(words.pictures)), at_once=is_later)
                 is_later = True
                 shown = picture.read(page.image, words.year, ais=words.ais)
                 progress.end()
                 for symbol in shown.symbols:
-                    print(_told(page, symbol, words.json), flush=sys.stdout.isatty())
+                    print(_line(page, symbol, words.json), flush=sys.stdout.isatty())
                 if shown.dropped:
-                    tell(f"{page}: it shows {shown.dropped} barcodes more, at least: cut the picture")
+                    tell(f"{page}: {told('moreSymbols', shown.dropped)}")
                     status = max(status, REFUSED)
                 if not shown.symbols:
-                    tell(f"{page}: {_why(shown.reason)}; docs/PICTURES.md says what a picture needs")
+                    tell(f"{page}: {told('noSymbol', _why(shown.reason))}")
                     status = max(status, REFUSED)
         except Refusal as refusal:
-            tell(f"{name}: {refusal}: a picture of more than {picture.MOST_PIXELS:,} pixels is not read: make it smaller")
+            tell(f"{name}: {told('tooManyPixels', refusal, f'{picture.MOST_PIXELS:,}')}")
             status = max(status, REFUSED)
         except Unopened as error:
             progress.end()
@@ -104,21 +96,18 @@ def run(words: argparse.Namespace) -> int:
 
 
 def _why(reason: Optional[Refusal]) -> str:
-    """Why a picture shows no barcode that is read, by the row that came furthest, and what to do."""
-    if reason is None:
-        return f"no barcode was found: {_KINDS}"
-    advice = _ADVICE.get(reason.number)
-    return f"no barcode was read: {reason}: {advice or reason.cause}"
+    """Why the row that came furthest was not read."""
+    return f": {reason}: {said(reason.number, '')}" if reason else ""
 
 
-def _told(page: Page, symbol: Symbol, as_json: bool) -> str:
+def _line(page: Page, symbol: Symbol, as_json: bool) -> str:
     """The line of a barcode."""
     answer, box = symbol.answer, symbol.box
     if not as_json:
         return f"{page}\t{answer.identifier}\t{answer.text}\t{','.join(map(str, box))}"
-    told = {"file": page.name, **({} if page.number is None else {"page": page.number}), **data_of(answer),
+    data = {"file": page.name, **({} if page.number is None else {"page": page.number}), **data_of(answer),
             "box": list(box), "corners": [list(corner) for corner in symbol.corners], "rows": symbol.rows}
-    return json.dumps(told, ensure_ascii=False)
+    return json.dumps(data, ensure_ascii=False)
 
 
 def _pages_of(name: str) -> Iterator[Page]:
@@ -136,11 +125,11 @@ def _pages_of(name: str) -> Iterator[Page]:
     except OSError as error:
         raise Unopened(error.strerror or str(error)) from error
     if len(data) > _MOST_BYTES:
-        raise Unopened(f"the file has more than {_MOST_BYTES:,} bytes, and is not read")
+        raise Unopened(told("tooManyBytes", f"{_MOST_BYTES:,}"))
     if data[:1024].lstrip().startswith(b"%PDF-"):
         yield from _pdf_pages(name, data)
     elif data[4:12] in _PHOTOS_OF_TELEPHONES:
-        raise Unopened("this is a HEIC or AVIF photograph, which is not read: save it as JPEG")
+        raise Unopened(told("photo"))
     else:
         yield from _pictures(name, data)
 
@@ -160,8 +149,7 @@ def _pictures(name: str, data: bytes) -> Iterator[Page]:
         raise
     except _DAMAGES as error:
         is_known = type(error).__name__ != "UnidentifiedImageError"
-        raise Unopened("the picture is damaged, or cut" if is_known else
-                       "this is no picture that is read: JPEG, PNG, TIFF, PBM, PGM, PPM, BMP, GIF, WebP and PDF are") from error
+        raise Unopened(told("damagedPicture" if is_known else "noPicture")) from error
 
 
 def _pdf_pages(name: str, data: bytes) -> Iterator[Page]:
@@ -169,7 +157,7 @@ def _pdf_pages(name: str, data: bytes) -> Iterator[Page]:
     from ..picture import MOST_PIXELS, opened
 
     if not (shutil.which("pdftoppm") and shutil.which("pdfinfo")):
-        raise Unopened("pages of PDF files are drawn by pdftoppm: apt-get install poppler-utils")
+        raise Unopened(told("noPoppler"))
     for number, (width, height) in enumerate(_sizes(data), 1):
         if width * height * (DPI / 72) ** 2 > MOST_PIXELS:
             raise Refusal(44, "InputSize")
@@ -178,13 +166,13 @@ def _pdf_pages(name: str, data: bytes) -> Iterator[Page]:
             with opened(io.BytesIO(drawn)) as image:
                 yield Page(name, number, image)
         except _DAMAGES as error:
-            raise Unopened(f"pdftoppm draws nothing of page {number}") from error
+            raise Unopened(told("noPage", number)) from error
 
 
 def _sizes(data: bytes) -> List[Tuple[float, float]]:
     """The widths and heights of the pages of a PDF file, in points."""
-    told = _run(["pdfinfo", "-f", "1", "-l", str(_MOST_PAGES), "-"], data, 0).decode("utf-8", "replace")
-    sizes = re.findall(r"^Page +\d+ size: +([\d.]+) x ([\d.]+) pts", told, re.MULTILINE)
+    shown = _run(["pdfinfo", "-f", "1", "-l", str(_MOST_PAGES), "-"], data, 0).decode("utf-8", "replace")
+    sizes = re.findall(r"^Page +\d+ size: +([\d.]+) x ([\d.]+) pts", shown, re.MULTILINE)
     return [(float(width), float(height)) for width, height in sizes]
 
 
@@ -198,8 +186,8 @@ def _run(words: List[str], data: bytes, number: int) -> bytes:
     try:
         run = subprocess.run(words, input=data, stdout=subprocess.PIPE, stderr=subprocess.PIPE, timeout=_PATIENCE)
     except subprocess.TimeoutExpired:
-        raise Unopened(f"page {number} takes {words[0]} more than {_PATIENCE} seconds") from None
+        raise Unopened(told("slowPage", number, words[0], _PATIENCE)) from None
     if run.returncode:
         lines: List[Any] = run.stderr.decode("utf-8", "replace").strip().splitlines()
-        raise Unopened(f"{words[0]} does not open it: {lines[-1] if lines else f'status {run.returncode}'}")
+        raise Unopened(told("notOpened", words[0], lines[-1] if lines else f"status {run.returncode}"))
     return run.stdout

@@ -4,7 +4,7 @@ from __future__ import annotations
 import re
 import unicodedata
 from dataclasses import dataclass
-from typing import Dict, List, Optional, Set, Tuple
+from typing import Dict, List, NamedTuple, Optional, Set, Tuple
 
 from .. import Answer, Kind, Refusal
 from .._amounts import Amounts, price_like
@@ -51,7 +51,7 @@ def articles_of(table: Table, year: int, currency: str = "", is_free: bool = Fal
             faults.append(Fault(record.line, str(error)))
             numbers.doubt(record, year)
             continue
-        numbers.add(record.line, printed, (_plain(table.cell(record, "name")), _line(table.cell(record, "price"))))
+        numbers.add(printed, _Noted(record.line, kind, (_plain(table.cell(record, "name")), _line(table.cell(record, "price")))))
         try:
             widths.check(record)
             articles.append(_article(table, record, (kind, printed, answer), amounts))
@@ -64,15 +64,23 @@ def articles_of(table: Table, year: int, currency: str = "", is_free: bool = Fal
     return [it for it in articles if it.line not in lines], sorted(faults)
 
 
+class _Noted(NamedTuple):
+    """What a line says of a number: as which kind of barcode, with what name and price. Without a kind nobody knows."""
+
+    line: int
+    kind: Optional[Kind]
+    article: Tuple[str, str]
+
+
 class _Numbers:
     """The numbers of a list, each with what its lines say of the article."""
 
     def __init__(self) -> None:
-        self._found: Dict[str, List[Tuple[int, Tuple[str, str]]]] = {}
+        self._found: Dict[str, List[_Noted]] = {}
 
-    def add(self, line: int, number: str, article: Tuple[str, str]) -> None:
-        """Notes the name and the price of a number."""
-        self._found.setdefault(number, []).append((line, article))
+    def add(self, number: str, noted: _Noted) -> None:
+        """Notes what a line says of a number."""
+        self._found.setdefault(number, []).append(noted)
 
     def doubt(self, record: Record, year: int) -> None:
         """Notes all numbers of a record that cannot be read, since it may be of the same article."""
@@ -81,13 +89,18 @@ class _Numbers:
                 gtin = read_text(cell, year).gtin
             except (Refusal, Unreadable):
                 continue
-            self.add(record.line, gtin or "", ("", f"\0{record.line}"))
+            self.add(gtin or "", _Noted(record.line, None, ("", f"\0{record.line}")))
 
     def faults(self, known: Set[int]) -> List[Fault]:
-        """The errors of all lines whose number has several names or prices, except those that have an error already."""
-        doubles = [its for its in self._found.values() if len({article for _, article in its}) > 1]
-        return [Fault(line, said("sameNumber", its[0][0] if line != its[0][0] else its[1][0]))
-                for its in doubles for line, _ in its if line not in known]
+        """The errors of all lines whose number has several names or prices as one kind, except those that have an error already."""
+        found: Dict[int, Fault] = {}
+        for its in self._found.values():
+            for kind in {it.kind for it in its if it.kind}:
+                alike = [it for it in its if it.kind in (kind, None)]
+                first, *others = alike
+                for it in alike if len({it.article for it in alike}) > 1 else ():
+                    found[it.line] = Fault(it.line, said("sameNumber", (others[0] if it is first else first).line))
+        return [fault for line, fault in found.items() if line not in known]
 
 
 class _Widths:

@@ -1,0 +1,162 @@
+"""Which column is the price on the shelf, and how its cells are printed. More headings and lists: tests/labels/run."""
+import pytest
+
+from noriladle import _shop
+from noriladle._amounts import Amounts
+from noriladle._columns import table_of
+from noriladle._lists import Faults
+from noriladle._prices import folded, price_of
+from noriladle.labels import Faults as ListFaults
+from noriladle.labels import read_list
+
+OATS, RYE, GUM = "4012345010008", "4012345010374", "96385074"
+
+
+def found(headings, cells=None):
+    """The headings that a list of one line asks about, or the one that is taken, which stands alone."""
+    heads = headings.split(";")
+    line = cells or [f"{1 + at},99" for at in range(len(heads))]
+    table = table_of(f"EAN;{headings}\n{OATS};{';'.join(line)}\n".encode(), 2026)
+    if "price" in table.places:
+        return heads[table.places["price"][0] - 1]
+    return table.question.said
+
+
+@pytest.mark.parametrize("headings, price", [
+    ("Preis EK;Preis VK", "Preis VK"), ("RRP;Unit price", "RRP"), ("Price excl. VAT;Price incl. VAT", "Price incl. VAT"),
+    ("Preis netto;Preis inkl. MwSt.", "Preis inkl. MwSt."), ("Preis pro kg;Endpreis", "Endpreis"),
+    ("Cost price;Price group;Our price", "Our price"), ("Prix d'achat;Prix de vente TTC", "Prix de vente TTC"),
+    ("Prijs excl. btw;Prijs incl. btw", "Prijs incl. btw"), ("Preis je Karton;Preis je Stueck", "Preis je Stueck"),
+    ("Regular price;Sale price", "Regular price"), ("Was;Now", "Now"), ("Brutto-VK;Netto-VK", "Brutto-VK"),
+    ("Preis inkl. 19 % MwSt.;Preis ohne MwSt.", "Preis inkl. 19 % MwSt."), ("Preis ohne Pfand;Pfand", "Preis ohne Pfand"),
+    ("P.V.P.;Precio de coste", "P.V.P."), ("Preis;Preis CHF", "Preis"), ("regularPrice;salePrice", "regularPrice"),
+    ("Cena zakupu;Cena brutto", "Cena brutto"), ("Preis;UVP;EK", "Preis"), ("Inköpspris;Försäljningspris", "Försäljningspris"),
+    ("Preço de custo;Preço de venda", "Preço de venda"), ("Nákupní cena;Cena s DPH", "Cena s DPH"), ("Kostpris;Salgspris", "Salgspris"),
+])
+def test_the_price_on_the_shelf(headings, price):
+    assert found(headings) == price
+
+
+@pytest.mark.parametrize("headings, said", [
+    ("Preis;UVP", "'Preis', 'UVP' may each be the price on the shelf: say which it is, as in --column price='Preis', or --no-price"),
+    ("Preis EUR;Preis CHF", "'Preis EUR', 'Preis CHF' may each"), ("VK 1;VK 2", "'VK 1', 'VK 2' may each"),
+    ("Preis AT;Preis DE", "'Preis AT', 'Preis DE' may each"), ("VK CHF;Preis EUR", "'VK CHF', 'Preis EUR' may each"),
+    ("SalePrice;EatOutPrice", "'SalePrice', 'EatOutPrice' may each"),
+    ("Preis;Preis", "'Preis', 'Preis' may each be the price on the shelf: say which it is, as in --column price=2, or --no-price"),
+    ("EK", "no column is headed as the price on the shelf, only 'EK' (purchase price): say which it is, or that the labels have none, "
+     "as in --column price='EK', or --no-price"),
+    ("Preis/kg;Pfand", "no column is headed as the price on the shelf, only 'Preis/kg' (price of a unit), 'Pfand': say"),
+    ("Name", "no column is headed as the price on the shelf: say which it is, or that the labels have none, as in --no-price"),
+])
+def test_a_question(headings, said):
+    assert found(headings).startswith(said)
+
+
+def test_an_empty_column_is_no_price():
+    assert found("Preis;UVP", ["2,99", ""]) == "Preis"
+    assert found("Preis;VK", ["2,99", " "]) == "Preis"
+
+
+def test_folded_headings():
+    assert folded("regularPrice (€)") == " regular price eur " and folded("P.V.P. / Stück") == " pvp stuck "
+    assert folded("Stu\u0308ck-Preis") == " stuck preis " and folded("") == "  "
+    assert price_of("x" * 150 + " Preis") and price_of("x" * 250 + " Preis") is None and price_of("Bezeichnung") is None
+
+
+def test_a_column_that_the_list_has_not():
+    for columns, said in (({"price": "VK-Preis"}, "no column is headed 'VK-Preis'; there are 'EAN', 'Preis'"), ({"price": "3"}, "no column 3")):
+        with pytest.raises(Faults, match=said):
+            table_of(f"EAN;Preis\n{OATS};2,90\n".encode(), 2026, columns)
+    with pytest.raises(Faults, match="two columns are headed 'preis'"):
+        table_of(f"EAN;Preis;Preis\n{OATS};2,90;3\n".encode(), 2026, {"price": "preis"})
+    with pytest.raises(Faults, match="no heading"):
+        table_of(f"{OATS};2,90\n{RYE};3,00\n".encode(), 2026, {"price": "Preis"})
+
+
+def test_the_number_of_the_article_and_not_of_its_case():
+    table = table_of(f"EAN VE;Stück-EAN;Name;Preis\n1{OATS[:12]}5;{OATS};Kekse;2,90\n".encode(), 2026)
+    assert table.places["gtin"] == [1] and table.unused == ["'EAN VE'"]
+    assert table_of(f"EAN;GTIN;Preis\n;{OATS};2,90\n".encode(), 2026).places["gtin"] == [1]
+
+
+# ---- cells
+
+def printed(cell, others=("2,90",), heading="Preis", currency="", is_free=False):
+    return Amounts([*others, cell], price_of(heading), currency, is_free).printed(cell)
+
+
+@pytest.mark.parametrize("cell, text", [
+    ("2,9", "2,90"), ("3", "3,00"), ("€ 1.10", "€ 1.10"), ("CHF 3.5", "CHF 3.50"), ("1.1 EUR", "1.10 EUR"), ("2,90 €/kg", "2,90 €/kg"),
+    ("1.299", "1.299,00"), ("1.299,5", "1.299,50"), ("1 299,00", "1 299,00"), ("1'299", "1'299,00"), ("2,9900", "2,99"), ("5,–", "5,–"),
+    ("300 ¥", "300 ¥"), ("1.990 Ft", "1.990 Ft"), ("0,5 KWD", "0,500 KWD"), ("12345,67", "12345,67"), ("2,90 je Stück", "2,90 je Stück"),
+])
+def test_prices_with_the_decimals_of_their_currency(cell, text):
+    assert printed(cell) == text
+
+
+@pytest.mark.parametrize("cell, told", [
+    ("auf Anfrage", "is no price"), ("02. Sep", "is no price"), ("#N/V", "is no price"), ("10 %", "is no price"), ("2-in-1", "is no price"),
+    ("08.01.2027", "is no price"), ("4012345010008", "is no price"), ("1e3", "is no price"), ("007", "is no price"), ("€2€", "is no price"),
+    ("-1,00", "below zero"), ("1,00-", "below zero"), ("€ -1,00", "below zero"), ("0,00", "a price of zero"), ("0", "a price of zero"),
+    ("2,905", "may be 2905,00 or 2,90"), ("2,9051", "has more than 2 decimals: round it, as in 2,90"), ("12345,678", "more than 2 decimals"),
+])
+def test_what_is_no_price(cell, told):
+    with pytest.raises(ValueError, match=told):
+        printed(cell)
+
+
+def test_what_other_cells_and_words_say_of_a_price():
+    assert printed("1,299", others=["2.90"]) == "1,299.00" and printed("3", others=["2.90"]) == "3.00"
+    with pytest.raises(ValueError, match="may be 1299.00 or 1.29"):
+        printed("1.299", others=[])
+    assert printed("3", currency="¥") == "3" and printed("0", is_free=True) == "0,00"
+    assert printed("290", others=[], heading="price_cents") == "2.90" and printed("5", others=[], heading="Preis (Cent)") == "0.05"
+    with pytest.raises(ValueError, match="cents"):
+        printed("2.90", others=[], heading="Preis in Cent")
+
+
+# ---- lines
+
+@pytest.mark.parametrize("text, faults", [
+    (f"EAN,Artikel,Preis\n{OATS},Kekse,1,20\n", {2: "the price '1' may go on in the next cell, '20'"}),
+    (f"EAN,Artikel,Preis,Notiz\n{OATS},Kekse,1,20\n{RYE},Brot,3,59\n", {2: "may go on", 3: "may go on"}),
+    (f'EAN,Artikel,Preis\n{OATS},Kekse,"1,20"\n{RYE},Brot,3\n', {3: "'3' may be half of a price"}),
+    (f"EAN;Artikel;Preis\n{OATS};Shampoo; 2-in-1;3,90\n", {2: "'3,90' stands beyond the heading: this line has 4 cells"}),
+    (f"EAN;Artikel;VK;EK\n{OATS};Kekse;2,90;1,20\n{RYE};Brot;1,50\n{GUM};Gum;1,00;0,20\n", {3: "a cell is missing: this line has 3 cells"}),
+    (f"EAN;Artikel;Preis\n{OATS};Kekse;2,90\n{RYE};3,59\n{GUM};Gum;1,00\n", {3: "a cell is missing"}),
+    (f"EAN;Artikel;Preis\n{OATS};2,90;1,45\n", {2: "'2,90' stands where the name is"}),
+    (f"EAN;Artikel;Preis\n{OATS};Kekse;2,90\n{RYE};Brot;3\n{OATS};Kekse;2,50\n", {2: "line 4 has the same number", 4: "line 2 has the same"}),
+    (f"EAN;Artikel;Preis\n{OATS};Kekse;2,90\n;{OATS};Kekse;2,90\n", {2: "line 3 has the same number", 3: "this line has no number"}),
+    ("EAN;Artikel;Preis\n0000000000000;x;1,00\n", {2: "a number of zeros alone"}),
+    (f"EAN;Artikel;Preis\n#N/V;x;1,00\n{OATS};y;1,00\n", {2: "refused 1 Length"}),
+])
+def test_lines_that_are_refused(text, faults):
+    told = {fault.line: fault.said for fault in read_list(text.encode(), 2026).faults}
+    assert told.keys() == faults.keys() and all(faults[line] in told[line] for line in faults)
+
+
+def test_lines_that_are_told():
+    text = f"EAN;Artikel;Preis;Lager;;Regal\nGetränke;;;;;\n{OATS};Kekse;2,9;4;z;\n{OATS};Kekse;2,9;;;\n{GUM};Gum;;;;\n;Summe;9,00;;;\n"
+    prices = read_list(text.encode(), 2026)
+    assert [(it.line, it.price) for it in prices.articles] == [(3, "2,90"), (4, "2,90"), (5, "")] and not prices.faults
+    assert prices.notes == ["2 lines without a number are passed over: 2, 6", "not printed: 'Lager', column 5, 'Regal'",
+                            "1 line has an empty price, and its label has none: 5"]
+
+
+def test_an_answered_question():
+    text = f"EAN;Preis;UVP\n{OATS};2,90;3,50\n".encode()
+    with pytest.raises(ListFaults):
+        read_list(text, 2026)
+    for columns, price in (({"price": "UVP"}, "3,50"), ({"price": "2"}, "2,90"), ({"price": ""}, "")):
+        article, = read_list(text, 2026, columns).articles
+        assert article.price == price
+
+
+def test_a_language_has_its_decimal_sign():
+    try:
+        _shop.speak("de")
+        assert printed("290", others=[], heading="Preis in Cent") == "2,90" and _shop.said("noLabels").startswith("die Liste")
+        _shop.speak("xx")
+        assert _shop.said("noLabels") == "the list has no labels to print"
+    finally:
+        _shop.speak("en")
