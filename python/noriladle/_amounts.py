@@ -2,6 +2,7 @@
 from __future__ import annotations
 
 import re
+from decimal import ROUND_HALF_UP, Decimal
 from typing import Dict, Iterable, List, NamedTuple, Optional
 
 from ._prices import PriceHeading
@@ -84,7 +85,7 @@ class Amounts:
             price = self._grouped(price, cell, decimals)
         fraction = price.fraction[:decimals].ljust(decimals, "0")
         if price.fraction[decimals:].strip("0"):
-            raise ValueError(said("decimalsOfPrice", _short(cell), decimals, f"{price.whole}{price.point}{fraction}"))
+            raise ValueError(said("decimalsOfPrice", _short(cell), decimals, _rounded(price, decimals)))
         point = price.point or self.point or decimal_sign()
         if point == price.group:
             point = "," if point == "." else "."
@@ -99,6 +100,12 @@ class Amounts:
             full = f"{price.whole}{price.fraction}{price.point}{'0' * decimals}"
             raise ValueError(said("twoAmounts", _short(cell), full, f"{price.whole}{price.point}{price.fraction[:2]}"))
         return price._replace(whole=f"{price.whole}{price.point}{price.fraction}", group=price.point, point="", fraction="")
+
+
+def _rounded(price: _Written, decimals: int) -> str:
+    """The number of a price with this many decimals, rounded half up."""
+    number = Decimal(f"{re.sub('[^0-9]', '', price.whole)}.{price.fraction}")
+    return str(number.quantize(Decimal(1).scaleb(-decimals), ROUND_HALF_UP)).replace(".", price.point)
 
 
 def price_like(cell: str) -> bool:

@@ -270,6 +270,8 @@ class _Look:
 
     def _prices(self, places: Mapping[str, Sequence[int]], records: Sequence[Record], has_heading: bool) -> List[int]:
         """The columns that may be the price on the shelf: by the heading, or in a list without one by the cells."""
+        if "price" in self.none:
+            return []
         if "price" in {*self.asked, *self.named}:
             return list(places["price"])
         free = self._free(places)

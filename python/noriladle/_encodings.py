@@ -23,6 +23,8 @@ NAMES = tuple(_TABLE["names"])
 
 _WINDOWS = ("cp1252", "cp1250")
 _USUAL = _WINDOWS[0]
+_FEW_WORDS = 5
+"""Fewer words than this, without any hint, may be of every language."""
 _MOST_WORDS = 2_000
 """How many different words decide."""
 _LEAST = 16
@@ -52,11 +54,13 @@ def decoded(data: bytes, encoding: str = "") -> Decoded:
     name = encoding or _unicode(data)
     if name == "utf-16":
         order = "" if data[:2] in (b"\xff\xfe", b"\xfe\xff") else "-le" if data[1:2] == b"\0" else "-be"
-        return Decoded(data.decode(f"utf-16{order}", "replace"), _note(name) if order else "")
+        text = data.decode(f"utf-16{order}", "replace")
+        return Decoded(text, _note(name) if order else "", _damaged(text))
     if b"\0" in data:
         raise Faults([Fault(_line(data, data.index(b"\0")), said("noText"))])
     if name == "utf-8":
-        return _utf8(data)
+        text = data.decode("utf-8-sig", "replace")
+        return Decoded(text, "", _damaged(text))
     page = name or _page(data)
     text = _text(data, page)
     if "\ufffd" in text:
@@ -76,11 +80,10 @@ def _unicode(data: bytes) -> str:
     return "utf-8" if not bad or len(re.findall("[^\0-\x7f\ufffd]", text)) > bad else ""
 
 
-def _utf8(data: bytes) -> Decoded:
-    """The text of UTF-8, in which characters may be damaged."""
-    text = data.decode("utf-8-sig", "replace")
+def _damaged(text: str) -> List[int]:
+    """The lines of a text that have a damaged character."""
     lines = re.split("\r\n|\r|\n", text) if "\ufffd" in text else []
-    return Decoded(text, "", [number for number, line in enumerate(lines, 1) if "\ufffd" in line])
+    return [number for number, line in enumerate(lines, 1) if "\ufffd" in line]
 
 
 def _page(data: bytes) -> str:
@@ -91,11 +94,12 @@ def _page(data: bytes) -> str:
     words = _words(data)
     hints = _hinted(data)
     letters = {page: it for page in _PAGES for it in [_letters([_text(word, page) for word in words])] if it is not None}
-    fitting = [page for page, its in letters.items() if any(its <= _ALL[name] for name in _languages(page, hints))]
+    is_short = not hints and len(words) < _FEW_WORDS
+    fitting = [page for page, its in letters.items() if any(its <= _ALL[name] for name in (_ALL if is_short else _languages(page, hints)))]
     mixed = [page for page, its in letters.items() if its <= _GROUPS[page]]
     if not fitting and hints and hints <= _NATIVE[_USUAL] and _USUAL in mixed:
         fitting = [_USUAL]
-    elif not {*fitting} & {*_WINDOWS}:
+    elif is_short or not {*fitting} & {*_WINDOWS}:
         fitting = [page for page in _PAGES if page in fitting or page in mixed]
     if not fitting:
         raise Faults([Fault(1, told("by", said("noEncoding"), f"--encoding {next(iter(_PAGES))}"))])

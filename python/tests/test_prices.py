@@ -98,7 +98,7 @@ def test_prices_with_the_decimals_of_their_currency(cell, text):
     ("auf Anfrage", "is no price"), ("02. Sep", "is no price"), ("#N/V", "is no price"), ("10 %", "is no price"), ("2-in-1", "is no price"),
     ("08.01.2027", "is no price"), ("4012345010008", "is no price"), ("1e3", "is no price"), ("007", "is no price"), ("€2€", "is no price"),
     ("-1,00", "below zero"), ("1,00-", "below zero"), ("€ -1,00", "below zero"), ("0,00", "a price of zero"), ("0", "a price of zero"),
-    ("2,905", "may be 2905,00 or 2,90"), ("2,9051", "has more than 2 decimals: round it, as in 2,90"), ("12345,678", "more than 2 decimals"),
+    ("2,905", "may be 2905,00 or 2,90"), ("2,9051", "has more than 2 decimals: round it, as in 2,91"), ("2,8988", "as in 2,90"), ("12345,678", "more than 2 decimals"),
 ])
 def test_what_is_no_price(cell, told):
     with pytest.raises(ValueError, match=told):
@@ -147,6 +147,7 @@ def test_an_answered_question():
     text = f"EAN;Preis;UVP\n{OATS};2,90;3,50\n".encode()
     with pytest.raises(ListFaults):
         read_list(text, 2026)
+    assert not read_list(f"EAN;Preis\n{OATS};2,90\n".encode(), 2026, {"price": ""}).articles[0].price
     for columns, price in (({"price": "UVP"}, "3,50"), ({"price": "2"}, "2,90"), ({"price": ""}, "")):
         article, = read_list(text, 2026, columns).articles
         assert article.price == price
