@@ -19,7 +19,8 @@ _PRICE = re.compile(
     rf"(?P<below>[-−])?(?P<front>(?:{_SIGN})[ \xa0]?)?(?P<minus>[-−])?"
     rf"(?P<whole>[0-9]{{1,7}}|[0-9]{{1,3}}(?P<group>[{_GROUPS}])[0-9]{{3}}(?:(?P=group)[0-9]{{3}})?)"
     rf"(?:(?P<point>[.,])(?:(?P<fraction>[0-9]+)|(?P<dash>[-–—]{{1,2}})))?(?P<debit>-)?"
-    rf"(?P<back>[ \xa0]?(?:{_SIGN}))?(?P<each>[ \xa0]?(?:/|(?:je|pro|per|par|por|al|za)[ \xa0])[ \xa0]?[^\W\d_][\w. ]{{0,11}})?",
+    rf"(?P<back>[ \xa0]?(?:{_SIGN}))?"
+    r"(?P<each>[ \xa0]?(?:/|(?:je|pro|per|par|por|al|za)[ \xa0])[ \xa0]?[^\W\d_][\w. ]{0,11})?",
     re.IGNORECASE)
 """A price: a number with or without decimals, a currency before or behind it, and what it is for."""
 
@@ -81,7 +82,8 @@ class Amounts:
         decimals = _DECIMALS.get(price.currency, self._decimals)
         if price.dash:
             return price
-        if len(price.fraction) == 3 and not price.group and 0 < len(price.whole) <= 3 and price.whole != "0" and decimals != 3:
+        may_be_group = len(price.fraction) == 3 and not price.group and re.fullmatch("[1-9][0-9]{0,2}", price.whole)
+        if may_be_group and decimals != 3:
             price = self._grouped(price, cell, decimals)
         fraction = price.fraction[:decimals].ljust(decimals, "0")
         if price.fraction[decimals:].strip("0"):
@@ -92,14 +94,15 @@ class Amounts:
         return price._replace(point=point, fraction=fraction)
 
     def _grouped(self, price: _Written, cell: str, decimals: int) -> _Written:
-        """A price such as 1.299, if other prices of the list write decimals with the other sign, or the currency has none.
+        """A price such as 1.299, if other prices write decimals with the other sign, or the currency has none.
 
         :raises ValueError: they do not.
         """
         if decimals and self.point in ("", price.point):
             full = f"{price.whole}{price.fraction}{price.point}{'0' * decimals}"
             raise ValueError(said("twoAmounts", _short(cell), full, f"{price.whole}{price.point}{price.fraction[:2]}"))
-        return price._replace(whole=f"{price.whole}{price.point}{price.fraction}", group=price.point, point="", fraction="")
+        whole = f"{price.whole}{price.point}{price.fraction}"
+        return price._replace(whole=whole, group=price.point, point="", fraction="")
 
 
 def _rounded(price: _Written, decimals: int) -> str:

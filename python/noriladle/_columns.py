@@ -2,42 +2,26 @@
 from __future__ import annotations
 
 import re
-import unicodedata
 from collections import Counter
 from dataclasses import dataclass, replace
 from typing import Dict, List, Mapping, Optional, Sequence, Set, Tuple
 
 from . import Refusal
 from ._files import opened_list
+from ._headings import LONGER, MEANINGS, Headings, known, plain
 from ._lists import SPREADSHEET, WHOLE_LINES, Fault, Faults, Record, Sheet
-from ._prices import CARTON, PriceHeading, folded, price_of, shelf_prices
-from ._shop import said, sentence_of_lines, shared, told
+from ._prices import PriceHeading, price_of, shelf_prices
+from ._shop import said, sentence_of_lines, told
 from ._texts import Unreadable, looks_right, read_text
 
-_WORDS: Dict[str, List[str]] = shared("headings")
-"""The headings of each meaning, in English, German, French, Spanish, Italian, Dutch and Polish, without accents, blanks
-and signs. If several columns have one meaning, the word that comes first here wins; a line may have a number. Headings of
-prices are in shop/prices.json."""
-
-MEANINGS = tuple(_WORDS)
-_KNOWN = {word: (meaning, rank)
-          for meaning, words in reversed(_WORDS.items()) for rank, word in enumerate(words)}
-_NUMBERS = frozenset(shared("numbers"))
-"""Words that turn a heading such as "article" into one of article numbers."""
 _ONCE = ("gtin", "gs1", "copies", "kind")
 """Meanings that no list may have twice, since nobody can say which column is meant."""
 
 _MOST_TITLES = 10
 """The heading is one of the first 10 records."""
-_LONGER = 100
-"""The rank of a heading that begins with a known word and has more; twice that if the word comes later, and four times if
-it is a case's."""
-_MOST_WORDS = 4
-"""How many words of a heading may be that of a number."""
 _SAMPLE = 200
 """How many records decide what a column is."""
 _PRICE = re.compile(r"[^\d\s]{0,3}\s?\d{1,6}[.,]\d{2}\s?[^\d\s]{0,4}")
-_FOLDED = str.maketrans({"ł": "l", "ø": "o", "ß": "ss"})
 
 
 @dataclass(frozen=True)
@@ -83,8 +67,8 @@ class Table:
 
 
 def table_of(data: bytes, year: int, columns: Optional[Mapping[str, str]] = None, encoding: str = "") -> Table:
-    """The table of a file's bytes. ``columns`` names columns for meanings: by the heading, or by the number from 1; an empty
-    one says that there is none. The others are found by headings, the column of the numbers also by its cells.
+    """The table of a file's bytes. ``columns`` names columns for meanings: by the heading, or by the number from 1; an
+    empty one says that there is none. The others are found by headings, the column of the numbers also by its cells.
 
     :raises Faults: the file cannot be read or is empty; two columns have one meaning; none has numbers; or none is as
         ``columns`` says.
@@ -94,32 +78,6 @@ def table_of(data: bytes, year: int, columns: Optional[Mapping[str, str]] = None
     if not looks:
         raise Faults(opened.sheets[0].faults or [Fault(1, said("emptyList"))])
     return replace(max(looks, key=_Look.rank).table(), opened=opened.notes)
-
-
-def plain(heading: str) -> str:
-    """A heading in small letters, without accents, blanks and signs."""
-    letters = unicodedata.normalize("NFKD", heading.casefold().translate(_FOLDED))
-    return "".join(letter for letter in letters if letter.isalnum())
-
-
-def _known(heading: str) -> Tuple[str, int]:
-    """What a heading means, if it or one of its words is known, and its rank: a lower one is better."""
-    if re.search(r"\d{7}", heading):
-        return "", 0  # A number with a word beside it, such as EAN: 4012345010008.
-    price = price_of(heading)
-    if price:
-        return ("", 0) if price.reason else ("price", 0)
-    if plain(heading) in _KNOWN:
-        return _KNOWN[plain(heading)]
-    words = [plain(word) for word in re.split(r"[\W_]+", heading) if word] or [""]
-    meanings = [_KNOWN.get(word.rstrip("0123456789"), ("", 0)) for word in words]
-    number = next((at for at, (meaning, _) in enumerate(meanings[:_MOST_WORDS]) if meaning == "gtin"), None)
-    if number and re.search(r"\d", "".join(words[:number])):
-        number = None
-    if number is not None:
-        return "gtin", _LONGER * (1 + bool(number) + 3 * bool(CARTON.search(folded(heading)))) + meanings[number][1]
-    meaning, rank = meanings[0]
-    return ("", 0) if meaning == "name" and _NUMBERS & {*words[1:]} else (meaning, _LONGER + rank)
 
 
 class _Look:
@@ -156,9 +114,10 @@ class _Look:
         for meaning in {*_ONCE} - self.asked.keys() - self.none:
             best, *others = sorted(found.get(meaning, ())) or [(0, 0)]
             # A heading with more words, such as "EAN of the case", loses against one that is a known word.
-            if others and best[0] >= 0 and best[0] // _LONGER == others[0][0] // _LONGER:
+            if others and best[0] >= 0 and best[0] // LONGER == others[0][0] // LONGER:
                 first, second = (" ".join(self.first.cells[place].split()) for place in sorted((best[1], others[0][1])))
-                raise Faults([Fault(self.first.line, told("by", said("twice", first, second, meaning), f"--column {meaning}='{first}'"))])
+                way = f"--column {meaning}='{first}'"
+                raise Faults([Fault(self.first.line, told("by", said("twice", first, second, meaning), way))])
         return {meaning: [place for _, place in places] if meaning == "line" else [min(places)[1]]
                 for meaning, places in found.items() if meaning not in self.none}
 
@@ -173,7 +132,7 @@ class _Look:
         if any(looks_right(cell) and _is_right(cell, self.year) for cell in record.cells):
             return found
         for place, cell in enumerate(record.cells):
-            meaning, rank = (own[plain(cell)], -1) if plain(cell) in own else _known(cell)
+            meaning, rank = (own[plain(cell)], -1) if plain(cell) in own else known(cell)
             found.setdefault(meaning, []).append((rank, place))
         found.pop("", None)
         return found
@@ -193,10 +152,12 @@ class _Look:
         asked = {meaning: [self._asked(meaning, int(word))] for meaning, word in self.asked.items()}
         is_found = not is_headed and not {"gtin", "gs1"} & asked.keys()
         if is_found and not self.looking and (self.wide > 1 or self.headed):
-            raise Faults([Fault(self.first.line, told("by", said("noNumbers"), f"--column gtin='{' '.join(self.first.cells[0].split())}'"))])
+            way = f"--column gtin='{' '.join(self.first.cells[0].split())}'"
+            raise Faults([Fault(self.first.line, told("by", said("noNumbers"), way))])
         number = asked.get("gtin") or asked.get("gs1") or [self.number]
         has_heading = is_headed or self._has_heading(number[0])
-        self._check_names(has_heading)
+        headings = Headings(self.first, has_heading)
+        self._check_names(headings)
         places = {**(self.headed if has_heading else {}), **asked, **({"gtin": number} if is_found else {})}
         records = self.records[has_heading:]
         choice = self._prices(places, records, has_heading)
@@ -204,42 +165,51 @@ class _Look:
         places.update({"price": choice} if len(choice) == 1 else {})
         if is_found and self.sheet.delimiter != WHOLE_LINES:
             self._guess_name(places, records[:_SAMPLE])
-        return self._table(places, records, choice, has_heading, is_found)
+        return self._table(places, records, choice, headings, is_found)
 
-    def _table(self, places: Dict[str, List[int]], records: Sequence[Record], choice: Sequence[int], has_heading: bool, is_found: bool) -> Table:
+    def _table(
+        self, places: Dict[str, List[int]], records: Sequence[Record], choice: Sequence[int], headings: Headings,
+        is_found: bool
+    ) -> Table:
         """The table of these columns."""
         is_lines = self.sheet.delimiter == WHOLE_LINES
-        note = self._note(places, has_heading) if is_found and (has_heading or not is_lines) else ""
+        note = self._note(places, headings) if is_found and (headings.cells or not is_lines) else ""
         if self.titles:
             note = told("tookLine", self.first.line)
-        question = None if "price" in places or "price" in self.none else self._question(choice, has_heading, places)
-        numbers = [place for meaning in ("gtin", "gs1") for place in places.get(meaning, ())]
-        wide, shortest = self._width(has_heading), self._shortest()
-        lines = set() if is_lines else {record.line for record in records if self._has_no_number(record, numbers, wide, shortest)}
+        is_asked = "price" not in places and "price" not in self.none
         price = places.get("price", ())
-        heading = price_of(self.first.cells[price[0]]) if price and has_heading and price[0] < len(self.first.cells) else None
-        return Table([record for record in records if record.line not in lines], places, self.sheet.faults, note, self.sheet.delimiter,
-                     wide, shortest, question, heading, self._unused(places, records, has_heading), self.sheet.lost, sorted(lines), self.sheet.records)
+        numbers = [place for meaning in ("gtin", "gs1") for place in places.get(meaning, ())]
+        wide, shortest = self._width(headings), self._shortest()
+        passed = [] if is_lines else [
+            record.line for record in records if self._has_no_number(record, numbers, wide, shortest)]
+        lines = {*passed}
+        return Table(
+            records=[record for record in records if record.line not in lines], places=places, faults=self.sheet.faults,
+            note=note, delimiter=self.sheet.delimiter, width=wide, shortest=shortest,
+            question=headings.question(choice, self._amounts(self._free(places), records)) if is_asked else None,
+            heading=price_of(headings.of(price[0])) if price else None, unused=self._unused(places, records, headings),
+            lost=self.sheet.lost, passed=passed, source=self.sheet.records)
 
     def _has_no_number(self, record: Record, numbers: Sequence[int], wide: int, shortest: int) -> bool:
-        """Whether a record is a category or a total: it has nothing like a number in its columns, nor one elsewhere, and no
-        cell is missing."""
+        """Whether a record is a category or a total: it has nothing like a number in its columns, nor one elsewhere,
+        and no cell is missing or too many."""
         cells = [record.cells[place] for place in numbers if place < len(record.cells)]
         is_short = len(record.cells) < shortest and sum(bool(cell.strip()) for cell in record.cells) > 1
-        return (not is_short and not re.search(r"[\d#]", " ".join(cells)) and not any(cell.strip() for cell in record.cells[wide:])
-                and not any(looks_right(cell) and _is_right(cell, self.year) for cell in record.cells))
+        if is_short or re.search(r"[\d#]", " ".join(cells)) or any(cell.strip() for cell in record.cells[wide:]):
+            return False
+        return not any(looks_right(cell) and _is_right(cell, self.year) for cell in record.cells)
 
     def _shortest(self) -> int:
         """How many cells a record of a text has, if none is missing: as many as most have, with the heading."""
         usual = Counter(len(record.cells) for record in self.sample)
         return max(usual, key=lambda count: (usual[count], count)) if self.sheet.delimiter != SPREADSHEET else 0
 
-    def _width(self, has_heading: bool) -> int:
+    def _width(self, headings: Headings) -> int:
         """How many cells a record may have: as many as the heading, or else as most have."""
         if self.sheet.delimiter == WHOLE_LINES:
             return 1
         usual = Counter(len(record.cells) for record in self.sample)
-        return len(self.first.cells) if has_heading else max(usual, key=lambda count: (usual[count], count))
+        return len(headings.cells) or max(usual, key=lambda count: (usual[count], count))
 
     def _asked(self, meaning: str, number: int) -> int:
         """The index of a column that was named by its number."""
@@ -247,20 +217,21 @@ class _Look:
             raise Faults([Fault(self.first.line, said("columnRange", number, meaning, self.wide))])
         return number - 1
 
-    def _check_names(self, has_heading: bool) -> None:
+    def _check_names(self, headings: Headings) -> None:
         """Looks whether the list has each heading that a person named, and once.
 
         :raises Faults: it has not.
         """
-        headings = [plain(cell) for cell in self.first.cells] if has_heading else []
         for word in self.named.values():
-            if not has_heading:
-                raise Faults([Fault(self.first.line, said("noHeading", word))])
-            if plain(word) not in headings:
-                shown = ", ".join(said("quoted", " ".join(cell.split())) for cell in self.first.cells if cell.strip())
-                raise Faults([Fault(self.first.line, said("noColumn", word, shown))])
-            if headings.count(plain(word)) > 1:
-                raise Faults([Fault(self.first.line, said("twoColumns", word))])
+            count = headings.count(word)
+            if not headings.cells:
+                fault = said("noHeading", word)
+            elif not count:
+                fault = said("noColumn", word, ", ".join(said("quoted", cell) for cell in headings.cells if cell))
+            else:
+                fault = said("twoColumns", word)
+            if count != 1:
+                raise Faults([Fault(headings.line, fault)])
 
     def _has_heading(self, number: int) -> bool:
         """Whether the first record has a word in the column of the numbers, while others have numbers there."""
@@ -288,45 +259,19 @@ class _Look:
 
     def _amounts(self, free: Sequence[int], records: Sequence[Record]) -> List[int]:
         """The columns whose cells mostly look like prices."""
-        cells = {place: [it.cells[place].strip() for it in records[:_SAMPLE] if place < len(it.cells)] for place in free}
+        sample = records[:_SAMPLE]
+        cells = {place: [it.cells[place].strip() for it in sample if place < len(it.cells)] for place in free}
         return [place for place, its in cells.items() if 2 * sum(bool(_PRICE.fullmatch(it)) for it in its) > len(its)]
 
-    def _question(self, choice: Sequence[int], has_heading: bool, places: Mapping[str, Sequence[int]]) -> Fault:
-        """The question which column is the price."""
-        reasons = {place: heading.reason for place, heading in enumerate(map(price_of, self.first.cells)) if heading and heading.reason}
-        looking = self._amounts(self._free(places), self.records[has_heading:])
-        columns = choice or sorted({*(reasons if has_heading else ()), *looking})
-        if choice:
-            text = said("whichPrice", ", ".join(self._named(place, has_heading) for place in choice))
-        elif columns:
-            text = said("noShelfPrice", ", ".join(
-                said("because", self._heading(place, has_heading), said(reasons[place])) if has_heading and place in reasons
-                else self._named(place, has_heading) for place in columns))
-        else:
-            text = said("nonePrice")
-        is_unique = columns and has_heading and [*map(plain, self.first.cells)].count(plain(self._heading(columns[0], True))) == 1
-        answer = self._heading(columns[0], True) if is_unique else columns[0] + 1 if columns else ""
-        column = f"--column price={repr(answer) if is_unique else answer}"
-        return Fault(self.first.line, told("by", text, told("or", column, "--no-price") if columns else "--no-price"))
-
-    def _heading(self, place: int, has_heading: bool) -> str:
-        """The heading of a column, or nothing."""
-        return " ".join(self.first.cells[place].split()) if has_heading and place < len(self.first.cells) else ""
-
-    def _named(self, place: int, has_heading: bool) -> str:
-        """A column by its heading, or by its number."""
-        heading = self._heading(place, has_heading)
-        return said("quoted", heading) if heading else said("columnNumber", place + 1)
-
-    def _unused(self, places: Mapping[str, Sequence[int]], records: Sequence[Record], has_heading: bool) -> List[str]:
+    def _unused(self, places: Mapping[str, Sequence[int]], records: Sequence[Record], headings: Headings) -> List[str]:
         """The columns that are not used and have a heading or a cell, each by its heading or number."""
         if self.sheet.delimiter == WHOLE_LINES:
             return []
         used = {place for found in places.values() for place in found}
         filled: Set[int] = {place for record in records for place, cell in enumerate(record.cells) if cell.strip()}
-        wide = self._width(has_heading)
-        return [self._named(place, has_heading) for place in range(wide)
-                if place not in used and (place in filled or self._heading(place, has_heading))]
+        wide = self._width(headings)
+        return [headings.named(place) for place in range(wide)
+                if place not in used and (place in filled or headings.of(place))]
 
     def _guess_name(self, places: Dict[str, List[int]], records: Sequence[Record]) -> None:
         """Adds the column of names, which has most letters."""
@@ -337,13 +282,13 @@ class _Look:
         if "name" not in places and "name" not in self.none and letters and max(letters.values()) > 2 * len(records):
             places["name"] = [max(letters, key=lambda place: letters[place])]
 
-    def _note(self, places: Mapping[str, Sequence[int]], has_heading: bool) -> str:
+    def _note(self, places: Mapping[str, Sequence[int]], headings: Headings) -> str:
         """What each column was taken for."""
-        titles = [repr(" ".join(cell.split())) for cell in self.first.cells] if has_heading else []
         if self.sheet.delimiter == WHOLE_LINES:
-            return told("tookHeading", titles[0], self.first.line)
-        shown = [told("tookFor", titles[place] if place < len(titles) else said("columnNumber", place + 1), meaning)
-                 for meaning in MEANINGS for place in places.get(meaning, ())[:1]]
+            return told("tookHeading", repr(headings.of(0)), self.first.line)
+        taken = [(meaning, place) for meaning in MEANINGS for place in places.get(meaning, ())[:1]]
+        names = [repr(headings.of(place)) if place < len(headings.cells) else headings.named(place) for _, place in taken]
+        shown = [told("tookFor", name, meaning) for name, (meaning, _) in zip(names, taken)]
         return told("took", ", ".join(shown))
 
 

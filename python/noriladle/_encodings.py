@@ -1,4 +1,4 @@
-"""Finds how the text of a list is encoded, by evidence. shop/encodings.json has the tables; docs/LABELS.md says the rule."""
+"""Finds how the text of a list is encoded, by evidence. shop/encodings.json has the tables, docs/LABELS.md the rule."""
 from __future__ import annotations
 
 import re
@@ -13,8 +13,9 @@ _SIGNS, _JOINING, _CLOSING, _ALONE = (frozenset(_TABLE[name]) for name in ("sign
 _SEVEN = {name: frozenset(letters + letters.upper()) for name, letters in _TABLE["languages"].items()}
 _ALL = {**_SEVEN, **{name: frozenset(letters + letters.upper()) for name, letters in _TABLE["neighbours"].items()}}
 _NATIVE = {page: frozenset(names) for page, names in _TABLE["groups"].items()}
-_GROUPS: Dict[str, FrozenSet[str]] = {page: frozenset(_TABLE["anywhere"] + _TABLE["anywhere"].upper()).union(*(_ALL[name] for name in names))
-                                      for page, names in _NATIVE.items()}
+_ANYWHERE = frozenset(_TABLE["anywhere"] + _TABLE["anywhere"].upper())
+_GROUPS: Dict[str, FrozenSet[str]] = {
+    page: _ANYWHERE.union(*(_ALL[name] for name in names)) for page, names in _NATIVE.items()}
 _WORDS = {name: frozenset(words) for name, words in _TABLE["words"].items()}
 _KNOWN = {word: name for name, words in _TABLE["names"].items() for word in words}
 _UPPER = {page: {128 + at: sign for at, sign in enumerate(signs)} for page, signs in _PAGES.items()}
@@ -72,8 +73,8 @@ def decoded(data: bytes, encoding: str = "") -> Decoded:
 def _unicode(data: bytes) -> str:
     """Which form of Unicode the bytes are, if they are one: most of UTF-16's are pairs with a byte 0."""
     zeros = data.count(0)
-    if data[:2] in (b"\xff\xfe", b"\xfe\xff") or len(data) % 2 == 0 and len(data) >= _LEAST and 4 * zeros >= len(data) and zeros in (
-            data[0::2].count(0), data[1::2].count(0)):
+    are_pairs = len(data) % 2 == 0 and len(data) >= _LEAST and 4 * zeros >= len(data)
+    if data[:2] in (b"\xff\xfe", b"\xfe\xff") or are_pairs and zeros in (data[0::2].count(0), data[1::2].count(0)):
         return "utf-16"
     text = data.decode("utf-8", "replace")
     bad = text.count("\ufffd")
@@ -93,9 +94,11 @@ def _page(data: bytes) -> str:
     """
     words = _words(data)
     hints = _hinted(data)
-    letters = {page: it for page in _PAGES for it in [_letters([_text(word, page) for word in words])] if it is not None}
+    found = {page: _letters([_text(word, page) for word in words]) for page in _PAGES}
+    letters = {page: its for page, its in found.items() if its is not None}
     is_short = not hints and len(words) < _FEW_WORDS
-    fitting = [page for page, its in letters.items() if any(its <= _ALL[name] for name in (_ALL if is_short else _languages(page, hints)))]
+    fitting = [page for page, its in letters.items()
+               if any(its <= _ALL[name] for name in (_ALL if is_short else _languages(page, hints)))]
     mixed = [page for page, its in letters.items() if its <= _GROUPS[page]]
     if not fitting and hints and hints <= _NATIVE[_USUAL] and _USUAL in mixed:
         fitting = [_USUAL]
@@ -110,8 +113,8 @@ def _page(data: bytes) -> str:
 
 
 def _languages(page: str, hints: Set[str]) -> Set[str]:
-    """The languages that a list in a page may have: the seven, and of their neighbours those with a hint, or without any hint
-    those of Windows."""
+    """The languages that a list in a page may have: the seven, and of their neighbours those with a hint, or without
+    any hint those of Windows."""
     return {*_SEVEN, *(hints or (_ALL if page in _WINDOWS else ()))}
 
 
@@ -135,7 +138,7 @@ def _hinted(data: bytes) -> Set[str]:
 
 
 def _letters(words: Sequence[str]) -> Optional[Set[str]]:
-    """The letters of words beyond those of English; None if signs stand inside words, or capitals behind small letters."""
+    """The letters of words beyond those of English; None if a sign or a letter stands where none does."""
     found: Set[str] = set()
     for word in words:
         for at, sign in enumerate(word):
@@ -156,9 +159,11 @@ def _is_letter(sign: str) -> bool:
 
 def _is_misplaced(before: str, letter: str, after: str) -> bool:
     """Whether a letter stands alone as none does, or has the wrong case between its neighbours."""
+    if not before and not after:
+        return letter not in _ALONE
     if letter.isupper():
-        return before.islower() or before.isalpha() and after.islower() or not before and not after and letter not in _ALONE
-    return before.isupper() and after.isupper() and letter != "ß" or not before and not after and letter not in _ALONE
+        return before.islower() or before.isalpha() and after.islower()
+    return before.isupper() and after.isupper() and letter != "ß"
 
 
 def _text(data: bytes, page: str) -> str:

@@ -34,7 +34,8 @@ def opened_list(data: bytes, encoding: str = "") -> Opened:
         sheet, notes = opened_book(data)
         return Opened([sheet], notes)
     if data.startswith(_OLD_SPREADSHEET):
-        raise Faults([Fault(1, said("sheetEncrypted" if "EncryptedPackage".encode("utf-16-le") in data else "sheetOld"))])
+        is_encrypted = "EncryptedPackage".encode("utf-16-le") in data
+        raise Faults([Fault(1, said("sheetEncrypted" if is_encrypted else "sheetOld"))])
     for magic, name in _OTHER_FILES:
         if data.startswith(magic):
             raise Faults([Fault(1, told("takesPicture", said(name)) if name in _PICTURES else said(name))])

@@ -24,8 +24,8 @@ def meant(text: str) -> str:
     bare = _bare(text)
     joined = _JOINTS.sub("", bare)
     is_written_as_isbn = joined != text.strip() or joined[-1:] in "Xx"
-    ways = (joined, _isbn(joined) if is_written_as_isbn else "", _of_thousands(bare), _without_decimals(joined), _in_full(joined),
-            _of_letters(joined), joined.zfill(12) if len(joined) in (10, 11) else "")
+    ways = (joined, _isbn(joined) if is_written_as_isbn else "", _of_thousands(bare), _without_decimals(joined),
+            _in_full(joined), _of_letters(joined), joined.zfill(12) if len(joined) in (10, 11) else "")
     return next((number for number in ways if is_number(number)), "")
 
 
@@ -36,12 +36,11 @@ def is_number(digits: str) -> bool:
 
 
 def advice(text: str) -> str:
-    """What to write for a text that is no number: what it clearly stands for, or each number that it may be; or nothing."""
-    number = meant(text)
-    letter = re.search("[Oo]", _bare(text))
-    if number and letter and re.sub("[Oo]", "0", _JOINTS.sub("", _bare(text))) == number:
+    """What to write for a text that is no number: what it clearly stands for, or each number that it may be."""
+    number, digits = meant(text), _JOINTS.sub("", _bare(text))
+    letter = re.search("[Oo]", digits)
+    if number and letter and re.sub("[Oo]", "0", digits) == number:
         return said("letterO", letter[0], number)
-    digits = _JOINTS.sub("", _bare(text))
     readings = _readings(digits)
     if number and (not digits.isdecimal() or digits == number):
         return said("isbn", number) if re.fullmatch("[0-9]{9}[Xx]", digits) else said("plainly", number)
@@ -60,7 +59,8 @@ def _readings(digits: str) -> List[Tuple[str, str]]:
     """Each number that some digits may be, and what would be wrong with them."""
     if not (digits.isascii() and digits.isdecimal()):
         return []
-    found = [("lostZeros", digits.zfill(length)) for length in (8, 12, 13) if 5 < len(digits) < length and is_number(digits.zfill(length))][:1]
+    padded = [digits.zfill(length) for length in (8, 12, 13) if 5 < len(digits) < length]
+    found = [("lostZeros", number) for number in padded if is_number(number)][:1]
     found += [("ofIsbn", it) for it in [_isbn(digits)] if it]
     if len(digits) in (7, 11, 12):
         found.append(("addedDigit", f"{digits}{check_digit(digits)}"))

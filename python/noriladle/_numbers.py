@@ -1,5 +1,5 @@
-"""Writes the numbers of spreadsheets in full, whatever their format shows, with what the format adds: zeros in front, decimals,
-and a currency."""
+"""Writes the numbers of spreadsheets in full, whatever their format shows, with what the format adds: zeros in front,
+decimals, and a currency."""
 from __future__ import annotations
 
 import datetime
@@ -9,7 +9,7 @@ from typing import NamedTuple
 
 from ._shop import decimal_sign
 
-_USUAL = {1: "0", 2: "0.00", 3: "#,##0", 4: "#,##0.00", 9: "0%", 10: "0.00%", 39: "#,##0.00", 40: "#,##0.00", 43: "#,##0.00", 44: "#,##0.00"}
+_USUAL = {1: "0", 2: "0.00", 3: "#,##0", 9: "0%", 10: "0.00%", **dict.fromkeys((4, 39, 40, 43, 44), "#,##0.00")}
 """Excel's own formats of numbers."""
 _DATES = {*range(14, 23), *range(27, 37), *range(45, 48), *range(50, 59)}
 _MOST_DIGITS = 15
@@ -72,7 +72,9 @@ def in_full(value: Decimal) -> str:
     if value == value.to_integral_value():
         return f"{int(value)}"
     shown = f"{value.normalize():f}"
-    return shown if len(re.sub(r"\D", "", shown).lstrip("0")) <= _MOST_DIGITS else f"{Decimal(f'{float(value):.{_MOST_DIGITS}g}'):f}"
+    if len(re.sub(r"\D", "", shown).lstrip("0")) <= _MOST_DIGITS:
+        return shown
+    return f"{Decimal(f'{float(value):.{_MOST_DIGITS}g}'):f}"
 
 
 def _date(value: Decimal) -> str:

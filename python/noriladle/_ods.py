@@ -48,7 +48,8 @@ class _Tables(Handler):
 
     def start(self, name: str, attributes: Attributes) -> None:
         if name == "table":
-            self._name, self._is_hidden = attributes.get("name", ""), self._hidden_styles.get(attributes.get("style-name", ""), False)
+            self._name = attributes.get("name", "")
+            self._is_hidden = self._hidden_styles.get(attributes.get("style-name", ""), False)
             self._rows, self._hidden, self._faults, self._line = [], [], [], 1
         elif name == "table-row":
             self._times, self._cells, self._empty = int(attributes.get("number-rows-repeated", "1")), [], 0
@@ -94,7 +95,8 @@ class _Tables(Handler):
         if not shown:
             self._empty += times
             if "formula" in self._cell and "value-type" not in self._cell:
-                self._faults.append(Fault(self._line, said("sheetFormula", column_letters(len(self._cells) + self._empty - times))))
+                place = len(self._cells) + self._empty - times
+                self._faults.append(Fault(self._line, said("sheetFormula", column_letters(place))))
             return
         if len(self._cells) + self._empty + times > MOST_COLUMNS:
             raise ValueError("column")
@@ -102,7 +104,7 @@ class _Tables(Handler):
         self._empty = 0
 
     def _end_of_row(self) -> None:
-        """Takes the row as often as it is repeated. The paragraphs of its cells are done, so blanks between tags are no text."""
+        """Takes the row as often as it is repeated. Its paragraphs are done, so blanks between tags are no text."""
         self._paragraphs = 0
         if self._cells:
             self._count += self._times * len(self._cells)
@@ -123,9 +125,10 @@ def _shown(shown: str, cell: Attributes) -> str:
         return shown
     if is_whole and abs(number) >= _LONG or not re.search(r"\d", shown) or "E" in shown.upper().replace("EUR", ""):
         return _local(in_full(number))
-    if kind == "percentage" or is_whole or _decimals(shown) and round(number, _decimals(shown)) == Decimal(in_full(number)):
+    decimals = _decimals(shown)
+    if kind == "percentage" or is_whole or decimals and round(number, decimals) == Decimal(in_full(number)):
         return shown
-    return re.sub(r"-?\d[\d.,'’\s]*", lambda it: _local(in_full(number)) + (" " if it[0].endswith(" ") else ""), shown, count=1)
+    return re.sub(r"-?\d[\d.,'’\s]*\d|-?\d", _local(in_full(number)), shown, count=1)
 
 
 def _decimals(shown: str) -> int:

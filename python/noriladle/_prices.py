@@ -1,4 +1,4 @@
-"""Finds which heading of a list is the price on the shelf. shop/prices.json has the words; docs/LABELS.md says the rule."""
+"""Finds which heading of a list is the price on the shelf. shop/prices.json has the words, docs/LABELS.md the rule."""
 from __future__ import annotations
 
 import re
@@ -42,8 +42,8 @@ def _any(patterns: Sequence[str]) -> "re.Pattern[str]":
 
 _IGNORED, _PRICE, _OWN, _GROSS, _RECOMMENDED, _TAXES, _WITH, _WITHOUT, _CENTS = (_any(_TABLE[name]) for name in (
     "ignored", "price", "own", "gross", "recommended", "taxes", "with", "without", "cents"))
-_SURE = _any([word for name in ("price", "own", "gross", "recommended", "taxes", "with", "cents", "neutral") for word in _TABLE[name]]
-             + [word for words in _TABLE["marks"].values() for word in words])
+_SURE = _any([word for name in ("price", "own", "gross", "recommended", "taxes", "with", "cents", "neutral")
+              for word in _TABLE[name]] + [word for words in _TABLE["marks"].values() for word in words])
 CARTON = _any(_TABLE["reasons"]["carton"])
 """Words of a case, also in headings of numbers."""
 _REASONS = {name: _any(patterns) for name, patterns in _TABLE["reasons"].items()}
@@ -51,8 +51,8 @@ _MARKS = {name: _any(patterns) for name, patterns in _TABLE["marks"].items()}
 
 
 def folded(heading: str) -> str:
-    """The words of a heading in small letters without accents, each between blanks. Single letters, as in R.R.P., become one
-    word."""
+    """The words of a heading in small letters without accents, each between blanks. Single letters, as in R.R.P.,
+    become one word."""
     text = re.sub("([a-z])([A-Z])", r"\1 \2", heading).lower().translate(_LETTERS)
     letters = (letter for letter in unicodedata.normalize("NFKD", text) if unicodedata.category(letter)[0] != "M")
     words: List[str] = []
@@ -95,7 +95,7 @@ _DOUBTFUL = frozenset(("unit", "offer", "country", "customer", "quantity", "uncl
 
 
 def shelf_prices(headings: Mapping[int, PriceHeading]) -> List[int]:
-    """The columns, of these with their headings, that may be the price on the shelf: one is the answer, more are a question."""
+    """The columns, of these with their headings, that may be the price on the shelf: more than one are a question."""
     known = {place: heading for place, heading in headings.items() if not heading.reason}
     # Beside a purchase price the plain one is the shop's own. Without one it may be the purchase price.
     least = -1 if any(heading.reason == "purchase" for heading in headings.values()) else 0
@@ -106,5 +106,5 @@ def shelf_prices(headings: Mapping[int, PriceHeading]) -> List[int]:
         return [*known]
     chosen = known[best[0]]
     doubts = [] if chosen.is_sure else [place for place, heading in headings.items() if heading.reason in _DOUBTFUL]
-    others = [heading for place, heading in known.items() if place != best[0] and chosen.marks and not heading.marks <= chosen.marks]
-    return sorted([*known, *doubts]) if others or doubts else best
+    has_others = bool(chosen.marks) and any(not heading.marks <= chosen.marks for heading in known.values())
+    return sorted([*known, *doubts]) if has_others or doubts else best

@@ -18,8 +18,8 @@ _MOST_BYTES = 64_000_000
 """The most bytes of a part when it is unpacked."""
 _MOST_RATIO, _LEAST_BOMB = 200, 10_000_000
 """Parts that are larger than this, and shrank more than this many times, have no list."""
-_DAMAGES = (zipfile.BadZipFile, expat.ExpatError, KeyError, ValueError, EOFError, RuntimeError, IndexError, ArithmeticError,
-            NotImplementedError, zlib.error, lzma.LZMAError)
+_DAMAGES = (zipfile.BadZipFile, expat.ExpatError, KeyError, ValueError, EOFError, RuntimeError, IndexError,
+            ArithmeticError, NotImplementedError, zlib.error, lzma.LZMAError)
 """What Python raises for damaged files."""
 
 Row = Tuple[int, List[str]]
@@ -138,9 +138,11 @@ def _taken(pages: Sequence[Page]) -> Tuple[Sheet, List[str]]:
     others = [said("hiddenSheet" if it.is_hidden else "quoted", it.name) for at, it in enumerate(pages)
               if it is not page and (it.has_cells or at < pages.index(page))]
     notes = [said("sheetTaken", said("quoted", page.name), ", ".join(others))] if others else []
-    lines = [line for line in page.hidden_rows if any(cells for at, cells in page.rows if at == line)] if page.hidden_rows else []
     records = [Record(line, cells) for line, cells in page.rows if any(cell.strip() for cell in cells)]
-    return Sheet(SPREADSHEET, records, []).without(page.faults), notes + ([said("sheetHidden", runs_of(lines))] if lines else [])
+    hidden = {*page.hidden_rows} & {record.line for record in records}
+    if hidden:
+        notes.append(said("sheetHidden", runs_of(sorted(hidden))))
+    return Sheet(SPREADSHEET, records, []).without(page.faults), notes
 
 
 def column_letters(place: int) -> str:

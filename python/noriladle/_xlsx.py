@@ -30,7 +30,8 @@ def xlsx_pages(book: Book) -> Iterator[Page]:
         if "worksheets/" in name:
             rows = _Rows(strings.found, styles.formats)
             parse(book.part(name), rows)
-            yield Page(sheet.get("name", ""), sheet.get("state", "visible") != "visible", rows.found, rows.hidden, rows.faults)
+            is_hidden = sheet.get("state", "visible") != "visible"
+            yield Page(sheet.get("name", ""), is_hidden, rows.found, rows.hidden, rows.faults)
 
 
 class _Sheets(Handler):

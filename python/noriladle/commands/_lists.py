@@ -5,8 +5,8 @@ import argparse
 import sys
 from typing import Dict
 
-from .._columns import MEANINGS
 from .._encodings import NAMES, encoding_of
+from .._headings import MEANINGS
 from .._lists import LIMIT
 from .._shop import told
 from . import WrongWords, tell

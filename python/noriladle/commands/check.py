@@ -30,7 +30,8 @@ from ._lists import add_list, columns_of, name_of, read_list
 def add_arguments(parser: argparse.ArgumentParser) -> None:
     """Adds the arguments of ``noriladle check``."""
     add_list(parser)
-    parser.add_argument("--fix", action="store_true", help="Write the list with its numbers corrected, as far as it is clear what they are")
+    parser.add_argument("--fix", action="store_true",
+                        help="Write the list with its numbers corrected, as far as it is clear what they are")
     parser.add_argument("-o", "--output", metavar="FILE", help="File of the corrected list, or - for standard output")
     parser.add_argument("--refused", action="store_true", help="Print only the lines that are refused")
     parser.add_argument("--json", action="store_true", help="Print a JSON object for each line")

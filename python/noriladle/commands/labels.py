@@ -1,11 +1,11 @@
 """Make labels from a list: names, prices and barcodes on label stock
 
-LIST is a CSV file or a spreadsheet, .xlsx or .ods. Its headings say which column is gtin (or ean, upc) or gs1 (element strings), name,
-price, copies, kind (ean13, upca, ean8, upce, itf14 or gs1128) and line 1, line 2, .. in English, German, French, Spanish,
+LIST is a CSV file or a spreadsheet, .xlsx or .ods. Its headings say which column is gtin (or ean, upc) or gs1 (element
+strings), name, price, copies, kind (ean13, upca, ean8, upce, itf14 or gs1128) and line 1, line 2, .. in English, German, French, Spanish,
 Italian, Dutch or Polish; a column of numbers without such a heading is found by its cells. If lines have errors, each is
-reported with what to do, nothing is written, and the status is 1; --leave-out writes the labels of the others. If several
-columns may be the price, the command asks, and --column price=HEADING answers. The end of FILE's name says the format: .pdf, .svg,
-.png, or .zpl, .epl, .tspl for a label printer. Print a PDF file at 100 %.
+reported with what to do, nothing is written, and the status is 1; --leave-out makes the labels of the others. If
+several columns may be the price, the command asks, and --column price=HEADING answers. The end of FILE's name says the format:
+.pdf, .svg, .png, or .zpl, .epl, .tspl for a label printer. Print a PDF file at 100 %.
 
   $ noriladle labels prices.csv --stock L7160 -o labels.pdf
 """
@@ -48,7 +48,8 @@ def add_arguments(parser: argparse.ArgumentParser) -> None:
     parser.add_argument("--currency", default="", metavar="SIGN", help="Sign to put behind prices without one, such as €")
     add_list(parser)
     add_price(parser)
-    parser.add_argument("--leave-out", action="store_true", help="Leave out lines that have errors, and make the labels of the others")
+    parser.add_argument("--leave-out", action="store_true",
+                        help="Leave out lines that have errors, and make the labels of the others")
     parser.add_argument("--font", metavar="TTF", help="TrueType file for the texts [default: Liberation Sans, or what is installed]")
     parser.add_argument("--bold", metavar="TTF", help="TrueType file for names and prices")
     add_year(parser)

@@ -146,11 +146,12 @@ def _warning(name: str, found: Sequence[Tuple[Article, Warned]]) -> LabelWarning
 
 
 def read_list(
-    data: bytes, year: int, columns: Optional[Mapping[str, str]] = None, *, encoding: str = "", currency: str = "", is_free: bool = False
+    data: bytes, year: int, columns: Optional[Mapping[str, str]] = None, *, encoding: str = "", currency: str = "",
+    is_free: bool = False
 ) -> PriceList:
-    """The articles of a CSV file or a spreadsheet, and the errors of its other lines. ``columns`` names your own headings,
-    such as ``{"name": "Ware"}``, or columns by their numbers from 1; ``{"price": ""}`` says that labels have no price. The
-    prices have the decimals of the currency; zero is a price if articles may be free.
+    """The articles of a CSV file or a spreadsheet, and the errors of its other lines. ``columns`` names your own
+    headings, such as ``{"name": "Ware"}``, or columns by their numbers from 1; ``{"price": ""}`` says that labels have
+    no price. The prices have the decimals of the currency; zero is a price if articles may be free.
 
     :raises Faults: nobody can say what its columns are, or which of them is the price on the shelf.
     """
@@ -176,7 +177,7 @@ def make(
     """The labels of a list. ``start`` is the first free cell of the first sheet, from 1. The currency follows prices that are
     only numbers. With ``leave_out`` the lines that have an error are left out.
 
-    :raises Faults: lines have an error, no symbol, no room, or characters that the font lacks; or the list has no labels.
+    :raises Faults: lines have an error, no symbol, no room, or characters that the font lacks; or there are no labels.
     :raises ValueError: the sheet has no such cell, or there are more than :data:`MOST_LABELS` labels.
     """
     if not 1 <= start <= stock.cells:
@@ -193,8 +194,10 @@ def make(
     # Cases have other labels than articles.
     plans = {is_retail: plan_of([item for item in items if item.is_retail is is_retail], cell, used, look)
              for is_retail in (True, False)}
-    drawings, faults = _each([item.article for item in items], items, lambda item: (item.article, _checked(item, plans[item.is_retail], year)),
-                             lambda done, of: progress(of + done, 2 * of))
+    drawings, faults = _each(
+        [item.article for item in items], items,
+        lambda item: (item.article, _checked(item, plans[item.is_retail], year)),
+        lambda done, of: progress(of + done, 2 * of))
     left = sorted([*left, *faults])
     if faults and not leave_out or not sum(article.copies for article, _ in drawings):
         raise Faults(left or [Fault(1, said("noLabels"))])

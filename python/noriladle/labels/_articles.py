@@ -38,10 +38,13 @@ class Article:
     copies: int = 1
 
 
-def articles_of(table: Table, year: int, currency: str = "", is_free: bool = False) -> Tuple[List[Article], List[Fault]]:
-    """The articles of a table, and the errors of its other lines. The prices have the decimals of the currency; zero is one
-    if articles may be free."""
-    amounts = Amounts([_line(table.cell(record, "price")) for record in table.records], table.heading, currency, is_free)
+def articles_of(
+    table: Table, year: int, currency: str = "", is_free: bool = False
+) -> Tuple[List[Article], List[Fault]]:
+    """The articles of a table, and the errors of its other lines. The prices have the decimals of the currency; zero is
+    one if articles may be free."""
+    prices = [_line(table.cell(record, "price")) for record in table.records]
+    amounts = Amounts(prices, table.heading, currency, is_free)
     widths, numbers = _Widths(table, amounts.point), _Numbers()
     articles, faults = [], list(table.faults)
     for record in table.records:
@@ -51,7 +54,8 @@ def articles_of(table: Table, year: int, currency: str = "", is_free: bool = Fal
             faults.append(Fault(record.line, str(error)))
             numbers.doubt(record, year)
             continue
-        numbers.add(printed, _Noted(record.line, kind, (_plain(table.cell(record, "name")), _line(table.cell(record, "price")))))
+        said_of = _plain(table.cell(record, "name")), _line(table.cell(record, "price"))
+        numbers.add(printed, _Noted(record.line, kind, said_of))
         try:
             widths.check(record)
             articles.append(_article(table, record, (kind, printed, answer), amounts))
@@ -92,7 +96,7 @@ class _Numbers:
             self.add(gtin or "", _Noted(record.line, None, ("", f"\0{record.line}")))
 
     def faults(self, known: Set[int]) -> List[Fault]:
-        """The errors of all lines whose number has several names or prices as one kind, except those that have an error already."""
+        """The errors of the lines whose number has several names or prices as one kind, except those known to be wrong."""
         found: Dict[int, Fault] = {}
         for its in self._found.values():
             for kind in {it.kind for it in its if it.kind}:
@@ -111,10 +115,13 @@ class _Widths:
         self._place = next(iter(table.places.get("price", ())), None)
         self._are_split, self._is_risky = False, False
         if self._place is not None:
-            pairs = [pair for pair in (it.cells[self._place:self._place + 2] for it in table.records) if pair and pair[0].strip()]
-            self._are_split = table.delimiter == "," and bool(pairs) and all(len(pair) == 2 and _is_half(*pair) for pair in pairs)
-            have_decimals = any(map(_has_decimals, (pair[0] for pair in pairs)))
-            self._is_risky = any(_has_decimals(pair[1]) or not have_decimals and re.search("[0-9]", pair[1]) for pair in pairs if len(pair) == 2)
+            found = [it.cells[self._place:self._place + 2] for it in table.records]
+            pairs = [pair for pair in found if pair and pair[0].strip()]
+            self._are_split = table.delimiter == "," and bool(pairs) and all(
+                len(pair) == 2 and _is_half(*pair) for pair in pairs)
+            have_decimals = any(_has_decimals(pair[0]) for pair in pairs)
+            behind = [pair[1] for pair in pairs if len(pair) == 2]
+            self._is_risky = any(_has_decimals(cell) or not have_decimals and re.search("[0-9]", cell) for cell in behind)
 
     def check(self, record: Record) -> None:
         """Looks for cells that belong to no column, for a price that its comma split, and for a missing cell.
@@ -124,7 +131,8 @@ class _Widths:
         count, width = len(record.cells), self._table.width
         beyond = [cell for cell in record.cells[width:] if cell.strip()]
         behind = record.cells[self._place:self._place + 2] if self._place is not None else []
-        if len(behind) == 2 and self._table.delimiter == "," and (self._are_split or count > width) and _is_half(*behind):
+        may_be_split = self._table.delimiter == "," and (self._are_split or count > width)
+        if len(behind) == 2 and may_be_split and _is_half(*behind):
             raise ValueError(said("splitPrice", _short(_line(behind[0])), _short(_line(behind[1]))))
         if len(behind) and self._table.delimiter == self._point and re.fullmatch("[0-9]{1,7}", behind[0].strip()):
             raise ValueError(said("wholePrice", behind[0].strip()))
@@ -136,7 +144,8 @@ class _Widths:
 
 def _is_half(price: str, behind: str) -> bool:
     """Whether a price and the next cell may be one number that a decimal comma split."""
-    return bool(re.fullmatch(r"[^0-9.,]*[0-9]{1,7}", price.strip()) and re.fullmatch(r"[0-9]{2}[^0-9.,]*", behind.strip()))
+    is_whole = re.fullmatch("[^0-9.,]*[0-9]{1,7}", price.strip())
+    return bool(is_whole and re.fullmatch("[0-9]{2}[^0-9.,]*", behind.strip()))
 
 
 def _has_decimals(cell: str) -> bool:
@@ -161,7 +170,8 @@ def _article(table: Table, record: Record, number: Tuple[Kind, str, Answer], amo
     if price_like(name):
         raise ValueError(said("nameIsPrice", _short(name)))
     copies = _copies(table.cell(record, "copies").strip())
-    return Article(record.line, *number, name, amounts.printed(price) if price else "", tuple(filter(None, lines)), copies)
+    shown = amounts.printed(price) if price else ""
+    return Article(record.line, *number, name, shown, tuple(filter(None, lines)), copies)
 
 
 def _symbol(text: str, kind: Optional[Kind], year: int) -> Tuple[Kind, str, Answer]:
