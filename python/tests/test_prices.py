@@ -31,6 +31,7 @@ def found(headings, cells=None):
     ("Preis inkl. 19 % MwSt.;Preis ohne MwSt.", "Preis inkl. 19 % MwSt."), ("Preis ohne Pfand;Pfand", "Preis ohne Pfand"),
     ("P.V.P.;Precio de coste", "P.V.P."), ("Preis;Preis CHF", "Preis"), ("regularPrice;salePrice", "regularPrice"),
     ("Cena zakupu;Cena brutto", "Cena brutto"), ("Preis;UVP;EK", "Preis"), ("Inköpspris;Försäljningspris", "Försäljningspris"),
+    ("Preis USt;Preis", "Preis"), ("Prix sans TVA;Prix", "Prix"),
     ("Preço de custo;Preço de venda", "Preço de venda"), ("Nákupní cena;Cena s DPH", "Cena s DPH"), ("Kostpris;Salgspris", "Salgspris"),
 ])
 def test_the_price_on_the_shelf(headings, price):
