@@ -40,7 +40,7 @@ function kindOf(text) {
 function answersTo(text) {
   if (!text.trim()) return [];
   try {
-    const table = tableOf(text), wrong = table.faults.map(({ line, fault }) => ({ line, typed: "", kind: "gtin", fault }));
+    const table = tableOf({ text, isSheet: false, faults: [] }), wrong = table.faults.map(({ line, fault }) => ({ line, typed: "", kind: "gtin", fault }));
     return [...table.records.flatMap((record) => textsOf(table, record).map((one) => answerOf(one, record.line))), ...wrong].sort((a, b) => a.line - b.line);
   } catch (error) {
     if (!(error instanceof Faults)) throw error;
@@ -70,7 +70,7 @@ function answerItem(answer, i) {
   const head = make("p", { class: "answer-head" }, icon(fault ? "bad" : "good"), make("span", { class: "hidden" }, t(fault ? "isWrong" : "isRight")),
     make("span", { class: "mono typed" }, shown), make("span", { class: "kind" }, isOne ? kindName(kind) : `${t("line", line)} · ${kindName(kind)}`));
   const item = make("li", { class: fault ? "answer bad" : "answer good" }, head);
-  if (fault) item.append(make("p", { class: "remedy" }, remedyText(fault), " ", make("span", { class: "code" }, faultName(fault))), fixButton(answer) ?? "");
+  if (fault) item.append(make("p", { class: "remedy" }, remedyText(fault), " ", make("span", { class: "code" }, faultName(fault))), ...fixButtons(answer));
   else if (isOne || !answer.isPlain && (answers.length <= MOST_OPEN || scans() && !i)) item.append(elementsTable(elements));
   else if (!answer.isPlain) item.append(make("details", {}, make("summary", {}, elements.map(({ title, meaning, value }) => `${title} ${meaning || value}`).join(" · ")), elementsTable(elements)));
   return item;
@@ -78,15 +78,15 @@ function answerItem(answer, i) {
 
 const kindName = (kind) => /^(elements|gtin|scanner|link)$/.test(kind) ? t(`kind-${kind}`) : kind;
 
-function fixButton({ line, typed, fault }) {
-  if (!fault.fix) return null;
-  return make("button", { type: "button", class: "small", onclick: () => {
+function fixButtons({ line, typed, fault }) {
+  const use = (fix) => {
     const lines = at("texts").value.split("\n");
-    lines[line - 1] = lines[line - 1].replace(typed, () => fault.fix);
+    lines[line - 1] = lines[line - 1].replace(typed, () => fix);
     at("texts").value = lines.join("\n");
     at("texts").focus();
     check();
-  } }, t("useFix", fault.fix));
+  };
+  return (fault.fixes ?? []).map((fix) => make("button", { type: "button", class: "small", onclick: () => use(fix) }, t("useFix", fix)));
 }
 
 // ---- a scanner that types
@@ -121,15 +121,16 @@ const checkedRows = () => [[t("csvLine"), t("csvTyped"), t("csvKind"), t("thAi")
     : elements.map(({ ai, title, value, meaning }) => [line, typed, kindName(kind), ai, title, value, meaning, ""]))];
 
 const checkedJson = () => JSON.stringify(answers.map(({ line, typed, kind, fault, elements }) => ({ line, text: typed, kind,
-  ...(fault ? { fault: { ...(fault.refused ? refusalOf(fault.refused) : {}), remedy: remedyText(fault), fix: fault.fix } } : { elements: asData(elements) }) })), null, 2);
+  ...(fault ? { fault: { ...(fault.refused ? refusalOf(fault.refused) : {}), remedy: remedyText(fault), fixes: fault.fixes } } : { elements: asData(elements) }) })), null, 2);
 
 // Elements as data, with days in the international form.
 const asData = (elements) => elements.map(({ ai, title, value, meaning }) => ({ ai, title, value, date: core.date(ai, value), meaning: meaning || undefined }));
 
 async function takeTexts(file) {
-  const text = await textOf(file, "check-fault");
-  if (text === null) return;
-  at("texts").value = text.replace(/\r\n?/g, "\n");
+  const read = await openFile(file, "check-fault");
+  if (!read) return;
+  at("texts").value = read.text.replace(/\r\n?/g, "\n");
+  note([t("taken", file.name), ...read.notes.map(remedyText)].join(" "));
   check();
 }
 

@@ -140,7 +140,7 @@ function zplOfRow(row) {
 const INSET = 0.05;
 
 // The byte of each sign in PDF's WinAnsiEncoding.
-const WIN_ANSI = new Map(Array.from({ length: 256 }, (_, byte) => [WINDOWS[byte - 128] ?? String.fromCharCode(byte), byte]));
+const WIN_ANSI = new Map(Array.from(textIn(Uint8Array.from({ length: 256 }, (_, byte) => byte), "cp1252"), (sign, byte) => [sign, byte]));
 const pdfString = (text) => `<${Array.from(text, (sign) => WIN_ANSI.get(sign).toString(16).padStart(2, "0")).join("")}>`;
 
 async function deflated(bytes) {

@@ -1,13 +1,11 @@
 // The task "labels": makes sheets of labels on the chosen stock from a price list; shows, prints and saves them.
 "use strict";
 
-// The columns that a person chose, the sheet on show, what was made last, and how often.
-const shop = { chosen: {}, page: 0, made: null, turns: 0, zoom: "fit" };
+// The sheet on show, what was made last, and how often.
+const shop = { page: 0, made: null, turns: 0, zoom: "fit" };
 
-// The most labels of a list, and the columns that a person may correct.
-const MOST_LABELS = 10000, COLUMNS = ["gtin", "gs1", "name", "price", "line", "copies", "kind"];
-
-const MOST_FAULTS_SHOWN = 40, MOST_NAME_TOLD = 80, OUTPUTS = ["print", "pdf", "png", "svg", "zpl"];
+// The most labels of a list, and the longest name of one that the sheet's text has.
+const MOST_LABELS = 10000, MOST_NAME_TOLD = 80, OUTPUTS = ["print", "pdf", "png", "svg", "zpl"];
 
 const pause = () => new Promise((done) => setTimeout(done));
 
@@ -34,33 +32,21 @@ function itemOf(article, cell, module) {
   return dots ? { ...article, symbol, module: dots } : { ...article, fault: tooWide(symbol, cell) };
 }
 
-// The articles of the list, and what its columns are.
-function listRead() {
-  const text = at("list").value;
-  if (!text.trim()) return { articles: [], columns: null };
-  try {
-    const table = tableOf(text, shop.chosen);
-    return { articles: articlesOf(table), columns: table };
-  } catch (error) {
-    if (!(error instanceof Faults)) throw error;
-    const { first, wide } = error.look ?? {}, columns = first && { wide, headings: first.cells.map(oneBlank), places: {} };
-    return { articles: error.faults.map(({ line, fault }) => ({ line, typed: "", name: "", fault })), columns };
-  }
-}
-
 // Draws all labels, with pauses in which the page can be used. A later run ends an earlier one.
 async function makeLabels() {
   const turn = ++shop.turns, from = performance.now(), stock = stockChosen();
   at("own-fault").textContent = stock ? "" : t("ownFault");
   if (!stock) return;
-  const dpi = dpiFor(stock), cell = cellOf(stock, DOTS_IN_MM[dpi]), { articles, columns } = listRead();
+  const dpi = dpiFor(stock), cell = cellOf(stock, DOTS_IN_MM[dpi]), { articles, columns, notes, question } = listRead();
   const items = [], labels = [], faults = [], each = eachInTime(turn, from);
+  showQuestion(question);
+  showNotes(notes);
   showColumns(columns);
   if (!await each(articles, (article) => items.push(itemOf(article, cell, Number(at("module").value))))) return;
   // Cases have other labels than articles.
   const good = items.filter(({ fault }) => !fault), isCase = ({ symbol }) => !symbol.form.groups.length;
   const plans = [false, true].map((isOne) => planOf(good.filter((item) => isCase(item) === isOne), cell));
-  shop.made = { stock, dpi, cell, labels, faults, isDone: false };
+  shop.made = { stock, dpi, cell, labels, faults, question, isDone: false };
   // Half-drawn labels are neither printed nor saved.
   for (const id of OUTPUTS) at(id).disabled = true;
   const drawn = (item) => {
@@ -142,31 +128,17 @@ const PAGE_NAMES = { a4: "A4", letter: "Letter" };
 const mm = (length) => length.toLocaleString(language, { maximumFractionDigits: 1 });
 
 function showLabels() {
-  const { labels, faults, stock } = shop.made, count = labels.length;
+  const { labels, faults, stock, question } = shop.made, count = labels.length;
   showSheet();
   at("first").max = stock.cells;
   at("first-field").hidden = stock.isRoll;
   const sum = count ? `${many("labelCount", count)} ${stock.isRoll ? t("onRoll") : many("onSheets", pageCount())}` : "";
-  at("labels-told").replaceChildren(...toldParts([sum, ""], [faults.length ? many("leftOut", faults.length) : "", "wrong"], [sum || faults.length ? "" : t("noList"), "soft-told"]));
+  at("labels-told").replaceChildren(...toldParts([sum, ""], [faults.length ? many("leftOut", faults.length) : "", "wrong"], [question ? t("oneQuestion") : "", ""], [sum || faults.length || question ? "" : at("list").value.trim() ? remedyText({ key: "noLabels" }) : t("noList"), "soft-told"]));
   at("example").hidden = at("list").value.trim() !== "";
   at("clear").hidden = !at("example").hidden;
   for (const id of OUTPUTS) at(id).disabled = !count;
-  showFaults();
+  showFaults(faults);
   showWarnings();
-}
-
-function showFaults() {
-  const { faults } = shop.made;
-  at("faults").hidden = !faults.length;
-  at("faults-title").textContent = many("faultCount", faults.length);
-  at("fault-list").replaceChildren(...faults.slice(0, MOST_FAULTS_SHOWN).map(faultItem));
-  at("faults-more").textContent = faults.length > MOST_FAULTS_SHOWN ? t("faultsMore", faults.length - MOST_FAULTS_SHOWN) : "";
-}
-
-function faultItem({ line, typed, name, fault }) {
-  const use = fault.fix && make("button", { type: "button", class: "small", onclick: () => mend(line, typed, fault.fix) }, t("useFix", fault.fix)), shown = shortText(typed);
-  return make("li", {}, make("button", { type: "button", class: "line", onclick: () => goToLine(line) }, t("line", line)),
-    make("div", {}, make("p", { class: "typed" }, make("span", { class: "mono" }, shown || "–"), name ? ` ${shortText(name)}` : ""), make("p", {}, remedyText(fault), " ", make("span", { class: "code" }, faultName(fault))), use));
 }
 
 // Shows equal warnings once, with the number of labels and the worst of them.
@@ -179,74 +151,6 @@ function showWarnings() {
     }
   }
   at("warnings").replaceChildren(...[...told.values()].map(({ count, worst }) => make("li", {}, `${many("labelCount", count)}: ${remedyText(worst)}`)));
-}
-
-// What the columns are, for correction by hand.
-function showColumns(found) {
-  const { wide, headings, places } = found ?? { wide: 0, headings: [], places: {} }, nameOf = (place) => headings[place] || t("columnNo", place + 1);
-  at("columns").hidden = !wide;
-  for (const meaning of COLUMNS) {
-    const options = Array.from({ length: wide }, (_, place) => new Option(nameOf(place), place));
-    at(`column-${meaning}`).replaceChildren(new Option(t("none"), -1), ...options);
-    at(`column-${meaning}`).value = places[meaning]?.[0] ?? -1;
-  }
-  at("columns-told").textContent = COLUMNS.filter((meaning) => places[meaning]?.length).map((meaning) => `${t(`column-${meaning}`)} = ${places[meaning].map(nameOf).join(" + ")}`).join(", ");
-  if (wide && !places.gtin?.length && !places.gs1?.length) at("columns").open = true;
-}
-
-// ---- the list
-
-// Where a line begins and ends in the list.
-function spanOfLine(line) {
-  const text = at("list").value;
-  let from = 0;
-  for (let i = 1; i < line; i++) from = text.indexOf("\n", from) + 1;
-  const end = text.indexOf("\n", from);
-  return { from, end: end < 0 ? text.length : end };
-}
-
-function goToLine(line) {
-  const list = at("list"), { from, end } = spanOfLine(line);
-  list.focus();
-  list.setSelectionRange(from, end);
-  list.scrollTop = (line - 3) * parseFloat(getComputedStyle(list).lineHeight);
-}
-
-// Replaces the wrong number by the right one.
-function mend(line, typed, right) {
-  const list = at("list"), { from } = spanOfLine(line), place = list.value.indexOf(typed, from);
-  if (place < 0) return goToLine(line);
-  list.setRangeText(right, place, place + typed.length, "end");
-  list.focus();
-  note(t("mended", line));
-  document.made = makeLabels();
-}
-
-// The text of a file; or nothing, and the page says why. What was typed stays.
-async function textOf(file, place) {
-  at(place).textContent = "";
-  try {
-    // Read one byte more, to notice that there are too many.
-    return decoded(new Uint8Array(await file.slice(0, LIMIT + 1).arrayBuffer()));
-  } catch (error) {
-    at(place).textContent = error instanceof Faults ? `${file.name}: ${remedyText(error.faults[0].fault)}` : t("noFile", file.name);
-    return null;
-  }
-}
-
-async function takeList(file) {
-  const text = await textOf(file, "list-fault");
-  if (text === null) return;
-  setList(text);
-  note(t("taken", file.name));
-}
-
-function setList(text) {
-  at("list-fault").textContent = "";
-  // A text field has no other line ends.
-  at("list").value = text.replace(/\r\n?/g, "\n");
-  [shop.chosen, shop.page] = [{}, 0];
-  document.made = makeLabels();
 }
 
 // ---- printing and saving
@@ -325,21 +229,10 @@ function changeStock() {
 }
 
 function listenToLabels() {
-  let waiting;
-  at("list").addEventListener("input", () => {
-    at("list-fault").textContent = "";
-    clearTimeout(waiting);
-    waiting = setTimeout(() => { document.made = makeLabels(); }, 120);
-  });
-  at("open").addEventListener("click", () => at("list-file").click());
-  at("list-file").addEventListener("change", () => { if (at("list-file").files[0]) document.taken = takeList(at("list-file").files[0]); at("list-file").value = ""; });
-  at("example").addEventListener("click", () => setList(t("exampleList")));
-  at("clear").addEventListener("click", () => { setList(""); at("list").focus(); });
   at("stock").addEventListener("change", changeStock);
   at("dpi").addEventListener("change", changeStock);
   at("own").addEventListener("input", () => { document.made = makeLabels(); });
   for (const id of ["first", "module"]) at(id).addEventListener("input", () => { document.made = makeLabels(); });
-  for (const meaning of COLUMNS) at(`column-${meaning}`).addEventListener("change", (event) => { shop.chosen[meaning] = Number(event.target.value); document.made = makeLabels(); });
   at("back").addEventListener("click", () => { shop.page--; showSheet(); });
   at("next").addEventListener("click", () => { shop.page++; showSheet(); });
   for (const zoom of ["fit", "real"]) at(`zoom-${zoom}`).addEventListener("click", () => setZoom(zoom));

@@ -1,66 +1,103 @@
-// Reads lists as people save and paste them, plain lines or the CSV of any spreadsheet, as records with line numbers. It reads every list as
-// python/noriladle/_lists.py does.
+// Reads lists as people save and paste them, plain lines or the CSV of any spreadsheet, as records with line numbers.
+// It reads every list as python/noriladle/_lists.py does.
 "use strict";
 
-// The most bytes of a list, and the delimiter of one with one cell a line: a character that no text has.
-const LIMIT = 16777216, WHOLE_LINES = "\x1f";
+// The most bytes of a list, and the delimiters of one with one cell a line and of a spreadsheet: characters that no
+// text has.
+const LIMIT = 16777216, WHOLE_LINES = "\x1f", SPREADSHEET = "\x1e";
 
-const MOST_CELL = 1000000, DELIMITERS = [WHOLE_LINES, ";", "\t", ","];
+const MOST_CELL = 1000000, DELIMITERS = [WHOLE_LINES, ";", "\t", ",", "|"];
 
-const OTHER_FILES = [["PK\x03\x04", "spreadsheet"], ["\xd0\xcf\x11\xe0", "spreadsheet"], ["%PDF-", "pdf"], ["\x89PNG", "picture"],
-  ["\xff\xd8\xff", "picture"], ["\x1f\x8b", "packed"]];
+/**
+ * A list in the field, and whether it is a spreadsheet, with tabs between its cells. Then it may have errors of cells
+ * that the text does not show.
+ * @typedef {{ text: string, isSheet: boolean, faults: BookFault[] }} ListTyped
+ *
+ * An error of a row, as long as its text is this one.
+ * @typedef {LineFault & { text: string }} BookFault
+ *
+ * A record: the number of its line or row, the line of the text where it begins, and its cells.
+ * @typedef {{ line: number, from: number, cells: string[] }} ListRecord
+ *
+ * The records of a list with a delimiter, and the errors of the lines that are none.
+ * What stands in these lines, as far as it can be told, is lost.
+ * @typedef {{ delimiter: string, records: ListRecord[], faults: LineFault[], lost: ListRecord[] }} Sheet
+ *
+ * A text of shop/, by its name or number, with values: texts, numbers, lengths, other errors, or several ways out.
+ * @typedef {{ key: string | number, values?: any[] }} Told
+ *
+ * An error with its line, counted from 1, and the line of the text.
+ * @typedef {{ line: number, from?: number, fault: Told }} LineFault
+ */
 
-// The characters of the bytes 128 to 159 in Windows-1252. Five of them have none there.
-const WINDOWS = "€\ufffd‚ƒ„…†‡ˆ‰Š‹Œ\ufffdŽ\ufffd\ufffd‘’“”•–—˜™š›œ\ufffdžŸ";
-
-// The errors of a list, each with its line, counted from 1.
+/** The errors of a list. */
 class Faults extends Error {
+  /** @param {...LineFault} faults */
   constructor(...faults) {
     super("faults");
     this.faults = faults;
   }
 }
 
-// An error is a text of shop/, by its name or number, with values. A value may be another error.
+/**
+ * An error at a line.
+ * @param {number} line
+ * @param {string | number} key
+ * @param {...any} values
+ * @returns {LineFault}
+ */
 const faultAt = (line, key, ...values) => ({ line, fault: { key, values } });
 
 const tooLarge = () => new Faults(faultAt(1, "tooLarge", LIMIT));
 
-// The text of a file: UTF-8, UTF-16 with its mark, or else Windows-1252.
-function decoded(bytes) {
-  if (bytes.length > LIMIT) throw tooLarge();
-  const head = String.fromCharCode(...bytes.subarray(0, 8)), other = OTHER_FILES.find(([magic]) => head.startsWith(magic));
-  if (other) throw new Faults(faultAt(1, other[1]));
-  if (/^\xff\xfe|^\xfe\xff/.test(head)) return new TextDecoder(head[0] === "\xff" ? "utf-16le" : "utf-16be").decode(bytes);
-  const zero = bytes.indexOf(0);
-  if (zero >= 0) throw new Faults(faultAt(1 + bytes.subarray(0, zero).reduce((sum, byte) => sum + (byte === 10), 0), "noText"));
-  try {
-    return new TextDecoder("utf-8", { fatal: true }).decode(bytes);
-  } catch {
-    return Array.from(bytes, (byte) => WINDOWS[byte - 128] ?? String.fromCharCode(byte)).join("");
-  }
-}
-
-// The list read with each delimiter that it may have: only the one that its first line names, as in `sep=;`; else whole lines, and then each
-// delimiter that occurs in it.
-function sheetsOf(text) {
+// The list read with each delimiter that it may have: only the one that its first line names, as in `sep=;`; else whole
+// lines, and then each delimiter that occurs in it.
+function sheetsOf({ text, isSheet, faults }) {
+  if (isSheet) return [bookSheet(sheetOf(text, "\t", 1, true), faults)];
   const told = text.match(/^sep=([^\n])[ \t]*(\r\n|\n|\r|$)/u);
   const sheets = told ? [sheetOf(text.slice(told[0].length), told[1], 2)]
     : DELIMITERS.filter((it) => it === WHOLE_LINES || text.includes(it)).map((it) => sheetOf(text, it, 1));
   if (!sheets.some(({ records, faults }) => records.length || faults.length)) throw new Faults(faultAt(1, "emptyList"));
-  return sheets;
+  return sheets.map((sheet) => withoutDamaged(sheet, text));
 }
 
-// The records of a text that are not empty, and the lines that are none (RFC 4180, with any line ends). The first line has this number.
-function sheetOf(text, delimiter, first) {
-  const lines = text.match(/[^\r\n]*(?:\r\n|\r|\n)|[^\r\n]+$/g) ?? [], records = [], faults = [];
-  for (let next = 0; next < lines.length;) {
-    const line = first + next, { cells, end } = recordAt(lines, next, delimiter);
-    if (!cells) faults.push(faultAt(line, "noCsv"));
-    else if (cells.some(trimmed)) records.push({ line, cells });
+// A spreadsheet without the records of rows that have an error.
+function bookSheet({ records }, known) {
+  const texts = new Map(records.map(({ line, cells }) => [line, lineOfCells(cells)]));
+  const faults = known.filter(({ line, text }) => (texts.get(line) ?? "") === text);
+  const lines = new Set(faults.map(({ line }) => line));
+  return withoutLines({ delimiter: SPREADSHEET, records, faults: [], lost: [] }, lines, faults);
+}
+
+// The list without the records of lines that have a damaged character.
+function withoutDamaged(sheet, text) {
+  if (!text.includes("\ufffd")) return sheet;
+  const lines = text.split(/\r\n|\r|\n/).flatMap((line, i) => line.includes("\ufffd") ? [i + 1] : []);
+  return withoutLines(sheet, new Set(lines), lines.map((line) => faultAt(line, "notUtf8")));
+}
+
+// The list without the records of these lines, and with these errors for them.
+function withoutLines(sheet, lines, faults) {
+  const isLost = ({ line }) => lines.has(line), records = sheet.records.filter((record) => !isLost(record));
+  const lost = [...sheet.lost, ...sheet.records.filter(isLost)];
+  return { ...sheet, records, lost, faults: [...sheet.faults, ...faults].sort((a, b) => a.line - b.line) };
+}
+
+// The records of a text that are not empty, and the lines that are none (RFC 4180, with any line ends). The first line
+// has this number. Of a spreadsheet rows are counted, whatever line ends their cells have. `from` is the line of the
+// text.
+function sheetOf(text, delimiter, first, isSheet = false) {
+  const lines = text.match(/[^\r\n]*(?:\r\n|\r|\n)|[^\r\n]+$/g) ?? [], records = [], faults = [], lost = [];
+  for (let next = 0, row = 1; next < lines.length; row++) {
+    const from = first + next, line = isSheet ? row : from, { cells, end } = recordAt(lines, next, delimiter);
+    if (!cells) {
+      faults.push({ ...faultAt(line, "noCsv"), from });
+      const parts = lines.slice(next, end).join("").split(/[\r\n"]/);
+      lost.push({ line, from, cells: parts.flatMap((part) => part.split(delimiter)) });
+    } else if (cells.some(trimmed)) records.push({ line, from, cells });
     next = end;
   }
-  return { delimiter, records, faults };
+  return { delimiter, records, faults, lost };
 }
 
 // The cells of the record that begins with a line, or nothing if it is no CSV, and the line after it.
@@ -75,7 +112,7 @@ function recordAt(lines, next, delimiter) {
   for (; next < lines.length; next++) {
     for (const sign of lines[next]) {
       const isEnd = sign === "\n" || sign === "\r";
-      if (state === "quoted" ? sign === '"' : state === "start" && sign === '"') state = state === "quoted" ? "quote" : "quoted";
+      if (sign === '"' && ["quoted", "start"].includes(state)) state = state === "quoted" ? "quote" : "quoted";
       else if (state === "quoted") cell += sign;
       else if (state === "quote" && sign === '"') [cell, state] = [`${cell}"`, "quoted"];
       else if (sign === delimiter) [cell, state] = [(cells.push(cell), ""), "start"];

@@ -10,7 +10,8 @@ const WHITE = /(?:[^\S\ufeff]|[\x1c-\x1f\x85])+/g, WHITE_ENDS = RegExp(`^${WHITE
 const trimmed = (cell) => cell.replace(WHITE_ENDS, "");
 
 // A code without white space at its ends. The separator stays.
-const stripped = (text) => text.replace(/^(?:[^\S\ufeff]|[\x1c\x1e\x1f\x85])+|(?:[^\S\ufeff]|[\x1c\x1e\x1f\x85])+$/g, "");
+const stripped = (text) =>
+  text.replace(/^(?:[^\S\ufeff]|[\x1c\x1e\x1f\x85])+|(?:[^\S\ufeff]|[\x1c\x1e\x1f\x85])+$/g, "");
 
 // A number without the blanks and hyphens that people put into it.
 const digitsOf = (text) => text.replace(/(?:[^\S\ufeff]|[\x1c-\x1f\x85\u2010-\u2015-])+/g, "");
@@ -26,17 +27,19 @@ function looksRight(cell) {
   return /^\p{Nd}{7,14}$/u.test(digits) || ROUNDED.test(digits) || LINK.test(text);
 }
 
-// What a text says: the identifier that a scanner sent, and the elements; or the module's error; or the fault of a text that cannot be read
-// at all.
+// What a text says: the identifier that a scanner sent, and the elements; or the module's error; or the fault of a text
+// that cannot be read at all.
 function readText(typed) {
   const text = stripped(typed);
   if (text[0] in BRACKETED) {
     const pairs = bracketedPairs(text);
-    return pairs ? scanned(`^${pairs.map(({ ai, value }) => ai + value).join("^")}`) : { fault: { key: text[0] === "(" ? "parentheses" : "brackets" } };
+    return pairs ? scanned(`^${pairs.map(({ ai, value }) => ai + value).join("^")}`)
+      : { fault: { key: text[0] === "(" ? "parentheses" : "brackets" } };
   }
   if (text[0] === "]" || LINK.test(text)) return scanned(text);
   if (isElements(text)) return scanned(/^[\^\x1d]/.test(text) ? text : `^${text}`);
   const digits = digitsOf(text);
+  if (/^0+$/.test(digits)) return { fault: { key: "zerosAlone" } };
   // Eight digits that begin with 0 are a GTIN-8 or a UPC-E: the module refuses to guess.
   if (/^0[0-9]{7}$/.test(digits)) return scanned(digits);
   const said = core.gtin(digits);
@@ -50,30 +53,37 @@ function scanned(text) {
   return { identifier: identifier === "-" ? "" : identifier, elements: pairsOf(said.slice(said.indexOf(" ") + 1)) };
 }
 
-// The AIs of a text with parentheses or brackets around each, with their values; or nothing if there are parentheses elsewhere too.
+// The AIs of a text with parentheses or brackets around each, with their values; or nothing if there are parentheses
+// elsewhere too.
 function bracketedPairs(text) {
   const plain = text.replace(WHITE, ""), pattern = BRACKETED[text[0]];
   return plain.replace(pattern, "") ? null : Array.from(plain.matchAll(pattern), ([, ai, value]) => ({ ai, value }));
 }
 
 // The element string of a text with parentheses or brackets around each AI, or with ^ for the separator.
-const elementString = (text) => text[0] in BRACKETED ? bracketedPairs(text).map(({ ai, value }) => ai + value).join("\x1d") : text.replaceAll("^", "\x1d");
+const elementString = (text) => text[0] in BRACKETED
+  ? bracketedPairs(text).map(({ ai, value }) => ai + value).join("\x1d") : text.replaceAll("^", "\x1d");
 
-// What to do about a refused text: advice from its digits, or else the usual one; and the right text, if there is exactly one.
+// The refusals of a number: its length, a sign that is no digit, its check digit.
+const OF_NUMBERS = [1, 2, 3];
+
+// What to do about a refused text: advice from its digits, or else the usual one; and the numbers that may be right.
 function remedyOf(typed, refused) {
   const text = stripped(typed), refusal = refusalOf(refused);
   if (text[0] === "]" || LINK.test(text)) return remedyOfScan(text, refusal);
-  return isElements(text) ? remedyOfElements(text, refusal) : remedyOfDigits(digitsOf(text), refusal);
+  return isElements(text) ? remedyOfElements(text, refusal) : remedyOfDigits(text, refusal);
 }
 
 const usualRemedy = (text, { number, place }) => ({ key: number, values: [Array.from(text)[place] ?? ""] });
 
 function remedyOfScan(text, refusal) {
-  if (refusal.number === 40) return text[0] === "]" ? { key: "otherSymbol", values: [text.slice(0, 3)] } : { key: "noLink" };
+  if (refusal.number === 40) {
+    return text[0] === "]" ? { key: "otherSymbol", values: [text.slice(0, 3)] } : { key: "noLink" };
+  }
   const digits = text.slice(3), isNumber = refusal.number === 3 && /^\d{9,}$/.test(digits);
   if (!isNumber) return usualRemedy(digits, refusal);
   const remedy = remedyOfDigits(digits, refusal);
-  return { ...remedy, fix: remedy.fix && text.slice(0, 3) + remedy.fix };
+  return { ...remedy, fixes: remedy.fixes?.map((fix) => text.slice(0, 3) + fix) };
 }
 
 // The remedy, with the element that it is about.
@@ -86,7 +96,8 @@ function remedyOfElements(text, refusal) {
   }
   let at = 0;
   for (const { ai, value } of bracketedPairs(text)) {
-    if (at === place) return { key: "at", values: [text[0] + ai + (text[0] === "(" ? ")" : "]") + value, padded(ai, value) ?? remedy] };
+    const shown = text[0] + ai + (text[0] === "(" ? ")" : "]") + value;
+    if (at === place) return { key: "at", values: [shown, padded(ai, value) ?? remedy] };
     at += ai.length + value.length + 1;
   }
   return remedy;
@@ -98,16 +109,13 @@ function padded(ai, value) {
   return said.startsWith("gtin") && gtin !== value ? { key: "padded", values: [ai, gtin] } : null;
 }
 
-function remedyOfDigits(digits, refusal) {
-  const right = (key, fix) => ({ key, values: [fix], fix }), isNumber = /^[0-9]+$/.test(digits);
-  if (ROUNDED.test(digits)) return { key: "rounded" };
-  if (/^\p{Nd}{8,14}[.,]0+$/u.test(digits)) return right("decimals", digits.split(/[.,]/)[0]);
-  if (refusal.name === "CheckDigit") return right("checkDigit", digits.slice(0, -1) + core.digit(digits.slice(0, -1)));
+function remedyOfDigits(text, refusal) {
+  const digits = digitsOf(text), decimals = digits.match(/^(\p{Nd}{8,14})[.,]0+$/u);
   if (refusal.name === "Kind" && digits.length === 8) return { key: "eight", values: [digits] };
-  for (const length of isNumber && digits.length > 5 ? [8, 12, 13] : []) {
-    const longer = digits.padStart(length, "0");
-    if (longer !== digits && longer.length === length && longer.at(-1) === core.digit(longer.slice(0, -1))) return right("zeros", longer);
-  }
-  if (isNumber && digits.length > 14) return { key: "manyDigits", values: [digits], fix: `^${digits}` };
+  if (decimals) return { key: "decimals", values: [decimals[1]], fixes: [decimals[1]], isClear: isNumber(decimals[1]) };
+  const advice = OF_NUMBERS.includes(refusal.number) ? numberAdvice(text) : null;
+  if (advice) return advice;
+  if (ROUNDED.test(digits)) return { key: "rounded" };
+  if (/^[0-9]{15,}$/.test(digits)) return { key: "manyDigits", values: [digits], fixes: [`^${digits}`] };
   return usualRemedy(digits, refusal);
 }

@@ -162,11 +162,13 @@ function elementsTable(elements) {
 
 // The text of an error, from shop/. Its values are texts, numbers, lengths, other errors, or several ways out.
 function faultText({ key, values = [] }) {
-  return filledText(TEXTS[language].faults[key] ?? TEXTS.en.faults[key] ?? String(key), values.map(valueText));
+  const { faults, command } = TEXTS[language];
+  return filledText(faults[key] ?? command[key] ?? TEXTS.en.faults[key] ?? String(key), values.map(valueText));
 }
 
 function valueText(value) {
   if (Array.isArray(value)) return value.map(faultText).join(t("orWay"));
+  if (value.list) return value.list.map(faultText).join(value.between ?? ", ");
   if (typeof value === "number") return value.toLocaleString(language);
   if (typeof value === "string") return value;
   return value.number === undefined ? faultText(value) : value.number.toLocaleString(language, { minimumFractionDigits: value.places, maximumFractionDigits: value.places, useGrouping: false });

@@ -130,7 +130,7 @@ class Browser:
 
     def press(self, key, code=0, modifiers=0, when=None):
         """Presses a key: Tab, Enter, an arrow or a sign; at a time, in seconds, unless it is now."""
-        code = code or {"Tab": 9, "Enter": 13, "ArrowRight": 39, "ArrowLeft": 37, "Home": 36, "End": 35, " ": 32}.get(key) or ord(key[0].upper())
+        code = code or {"Tab": 9, "Enter": 13, "ArrowRight": 39, "ArrowLeft": 37, "ArrowDown": 40, "Home": 36, "End": 35, " ": 32}.get(key) or ord(key[0].upper())
         text = {"Enter": "\r", " ": " "}.get(key, key if len(key) == 1 and not modifiers else None)
         words = {"key": key, "code": {" ": "Space"}.get(key, key), "windowsVirtualKeyCode": code, "modifiers": modifiers, **({"timestamp": when} if when else {})}
         self.call("Input.dispatchKeyEvent", type="keyDown" if text else "rawKeyDown", **words, **({"text": text} if text else {}))

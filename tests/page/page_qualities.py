@@ -28,7 +28,7 @@ from readback import ROOT, articles, listed
 PROGRAM, WORK, EXAMPLES = sys.argv[1:4]
 URL = f"file://{ROOT}/page/index.html"
 TEXTS = texts()
-MOST_BYTES = 260_000
+MOST_BYTES = 380_000
 DIAGONAL = """(01)09501101530003(17)261231(10)LOT7(3103)001250(422)276"""
 
 LABELS = [
@@ -51,9 +51,11 @@ def sentence(key, *values, language="en"):
     return f"{text[0].upper()}{text[1:]}."
 
 
-def make(page, text):
-    """Enters a list, and waits until everything is drawn."""
+def make(page, text, priced=True):
+    """Enters a list, perhaps of labels without a price, and waits until everything is drawn."""
     page.value(f"showTask('labels'), setList({json.dumps(text)}), document.made")
+    if not priced:
+        page.value("at('no-price').click(), document.made")
 
 
 def told(page):
@@ -74,8 +76,8 @@ def bad_lists(page):
     """The page reports files that are no lists, and keeps what was typed."""
     typed = listed(articles(3))
     make(page, typed)
-    files = {"large.csv": (b"4012345010008;x\n" * 7_000_000, sentence("tooLarge", "16,777,216")), "book.xlsx": (b"PK\x03\x04" + bytes(99), sentence("spreadsheet")),
-             "book.xls": (b"\xd0\xcf\x11\xe0\xa1\xb1\x1a\xe1", sentence("spreadsheet")), "list.pdf": (b"%PDF-1.4", sentence("pdf")), "list.gz": (b"\x1f\x8b\x08", sentence("packed")),
+    files = {"large.csv": (b"4012345010008;x\n" * 7_000_000, sentence("tooLarge", "16,777,216")), "book.xlsx": (b"PK\x03\x04" + bytes(99), sentence("sheetDamaged")),
+             "book.xls": (b"\xd0\xcf\x11\xe0\xa1\xb1\x1a\xe1", sentence("sheetOld")), "list.pdf": (b"%PDF-1.4", sentence("pdf")), "list.gz": (b"\x1f\x8b\x08", sentence("packed")),
              "list.bin": (bytes(range(256)) * 9, sentence("noText")), "photo.csv": (b"\x89PNG\r\n\x1a\n", sentence("picture"))}
     for name, (data, wanted) in files.items():
         with open(f"{WORK}/{name}", "wb") as file:
@@ -86,7 +88,7 @@ def bad_lists(page):
             same(f"{name} in {task}", page.text(fault), f"{name}: {wanted}")
             same(f"what was typed before {name} in {task}", page.value(f"at('{kept}').value"), typed if task == "labels" else "")
     os.remove(f"{WORK}/large.csv")
-    said = page.value("(() => { try { tableOf('4012345010008;x\\n'.repeat(1100000)); } catch (error) { return remedyText(error.faults[0].fault); } })()")
+    said = page.value("(() => { try { tableOf({ text: '4012345010008;x\\n'.repeat(1100000) }); } catch (error) { return remedyText(error.faults[0].fault); } })()")
     same("a list that is too large, pasted", said, sentence("tooLarge", "16,777,216"))
     same("the labels before them", page.value("showTask('labels'), at('labels-told').innerText"), "3 labels on 1 sheet")
     with open(f"{WORK}/windows.csv", "wb") as file:
@@ -97,28 +99,29 @@ def bad_lists(page):
 
 def hard_lists(page):
     """Long names, other scripts, copies, a label that is too narrow, columns corrected by hand."""
-    make(page, f"ean;name\n96385074;{'W' * 10_000}\n")
+    make(page, f"ean;name\n96385074;{'W' * 10_000}\n", priced=False)
     same("a name of 10,000 letters", (told(page)[0], sentence("cut", "")[:40] in page.text("warnings")), ("1 label on 1 sheet", True))
     make(page, "ean;name;price\n96385074;שלום עולם;₪ 3.50\n4012345010008;冷たい緑茶 500ml;¥150\n4012345010374;Żółta gęś 🍎;3,50 zł\n")
     same("labels of other scripts", told(page)[0], "3 labels on 1 sheet")
     pdf = page.value("pdfOf(allPages(), shop.made.stock, DOTS_IN_MM[300]).then((bytes) => bytes.length)")
     same("their PDF", pdf > 2000, True)
-    make(page, "ean;copies\n96385074;0\n4012345010008;1000\n4012345010374;\n")
+    make(page, "ean;copies\n96385074;0\n4012345010008;1000\n4012345010374;\n", priced=False)
     same("copies", told(page)[0], "1,001 labels on 42 sheets")
-    make(page, "ean;copies\n" + "96385074;1000\n" * 11)
+    make(page, "ean;copies\n" + "96385074;1000\n" * 11, priced=False)
     same("more labels than the page makes", (told(page)[0], sentence("manyLabels", "10,000") in told(page)[1]), ("10,000 labels on 417 sheets · 1 line left out", True))
-    make(page, "gs1;name\n(01)09501101530003(17)261231(10)LOT7;Kiste\n")
+    make(page, "gs1;name\n(01)09501101530003(17)261231(10)LOT7;Kiste\n", priced=False)
     same("a label that is too narrow", "The label is 69.9 mm wide, and with modules of 0.339 mm the barcode needs 89.4 mm with its quiet zones: use labels of 92 mm or more; or print fewer elements." in told(page)[1], True)
-    make(page, f"a;b;c\n{articles(1)[0][0]};{articles(2)[1][0]};x\n")
+    make(page, f"a;b;c\n{articles(1)[0][0]};{articles(2)[1][0]};x\n", priced=False)
     page.value("at('column-gtin').value = 1, at('column-gtin').dispatchEvent(new Event('change')), document.made")
     same("another column of numbers", page.value("shop.made.labels[0].item.text"), articles(2)[1][0].zfill(14))
     make(page, "Artikel;Preis\nKekse;2,90\n")
-    same("no column of numbers", (sentence("noNumbers") in told(page)[1], page.value("at('columns').open")), (True, True))
+    same("no column of numbers", page.text("question-text"), sentence("noNumbers"))
     make(page, "EAN;GTIN;Name\n4012345010008;4012345010374;x\n")
-    same("two columns of numbers", sentence("twice", "EAN", "GTIN", "gtin") in told(page)[1], True)
-    page.value("at('column-gtin').value = 1, at('column-gtin').dispatchEvent(new Event('change')), document.made")
+    same("two columns of numbers", page.text("question-text"), sentence("twice", "EAN", "GTIN", "gtin"))
+    page.value("at('question-select').value = 1, at('question').requestSubmit(), document.made")
+    page.value("at('no-price').click(), document.made")
     same("the one that is chosen", page.value("shop.made.labels[0].item.text"), "04012345010374")
-    make(page, "ean;name\n" + "4012345010375;x\n" * 100)
+    make(page, "ean;name\n" + "4012345010375;x\n" * 100, priced=False)
     same("a hundred faults", (told(page)[0], page.text("faults-more")), ("100 lines left out", "and 60 more"))
     make(page, listed(articles(30)))
     page.value("document.querySelector('[data-cell=\"4\"]').dispatchEvent(new MouseEvent('click', { bubbles: true })), document.made")
@@ -143,7 +146,7 @@ def damaged_lists(page, count):
         for (const [i, text] of lists.entries()) {
             try {
                 at('stock').value = stocks[i %% stocks.length], at('dpi').value = dpis[i %% dpis.length];
-                shop.chosen = {}, at('list').value = text;
+                setList(text), asked.columns = i %% 3 ? {} : { price: -1 };
                 await makeLabels();
                 found.drawn += new Set(shop.made.labels).size;
                 const faults = shop.made.faults.map(({ fault }) => remedyText(fault)), answers = answersTo(text).filter(({ fault }) => fault).map(({ fault }) => remedyText(fault));
@@ -402,7 +405,9 @@ def axe_core():
 
 STATES = {
     "labels, empty": "showTask('labels'), setList(''), document.made", "labels": "showTask('labels'), setList(LIST), document.made",
-    "labels, faults": "showTask('labels'), setList('EAN;Artikel\\n4012345010375;Brot\\n4,01235E+12;Saft\\n' + LIST.split('\\n').slice(1).join('\\n')), at('stock').value = 'own', changeStock(), document.querySelectorAll('details').forEach((one) => { one.open = true; }), document.made",
+    "labels, question": "showTask('labels'), setList('EAN;Artikel;Preis A;Preis B;Lager\\n4012345010008;Brot;1,20;1,30;7\\n'), document.made",
+    "labels, notes": "showTask('labels'), setList('EAN;Artikel;Preis;' + Array.from({ length: 30 }, (_, i) => `Spalte ${i}`).join(';') + '\\n4012345010008;Brot;1,20' + ';x'.repeat(30) + '\\n;Summe;1,20' + ';'.repeat(30) + '\\n'), document.made",
+    "labels, faults": "showTask('labels'), setList('EAN;Artikel;Preis\\n4012345010375;Brot;1,00\\n4,01235E+12;Saft;1,00\\n=4012345010008;Tee;0,00\\nEAN 4012345010374;Salz;1,00\\n' + LIST.split('\\n').slice(1).join('\\n')), at('stock').value = 'own', changeStock(), document.querySelectorAll('details').forEach((one) => { one.open = true; }), document.made",
     "check, empty": "at('stock').value = '3474', changeStock(), showTask('check'), at('check-clear').click()", "check": "at('try-box').click()", "check, list": "at('try-list').click()",
     "read, empty": "showTask('read'), at('read-clear').click()",
     "read": "document.made.then(() => pngOfPage(pageOf(0), shop.made.stock, 203)).then((png) => take(new File([png], 'sheet.png'), new File(['x'], 'x.png'), new File([png], 'b.png')))",

@@ -1,8 +1,10 @@
 """Compares how the page and `noriladle labels` read lists: they must find the same articles, and report the same errors.
 
-Usage: same_lists.py COUNT. Makes this many lists, most of them damaged, asks both, and prints what differs. Its last line is the counts.
+Usage: same_lists.py COUNT. Makes this many lists, most of them damaged, takes those of tests/labels and 1,000 that its generator
+damages, asks both, and prints what differs. Its last line is the counts.
 """
 import base64
+import glob
 import json
 import os
 import random
@@ -11,20 +13,24 @@ import subprocess
 import sys
 
 ROOT = os.path.dirname(os.path.dirname(os.path.dirname(os.path.abspath(__file__))))
-sys.path.insert(0, os.path.join(ROOT, "python"))
+LISTS = os.path.join(ROOT, "tests", "labels")
+sys.path[:0] = [os.path.join(ROOT, "python"), LISTS]
+from damaged_lists import damaged
 from noriladle._columns import table_of
 from noriladle._lists import Faults
 from noriladle.labels._articles import articles_of
 
 NUMBERS = ["4012345010008", "4012345010374", "96385074", "012345000065", "09501101530003", "978-3-16-148410-0", "4012345010375", "4,01235E+12",
            "12345000065", "1234565", "01234565", "4012345010008.0", "123", "", "401234501000x", "0109501101530003", "٤٠١٢٣٤٥٠١٠٠٠٨",
+           "=\"4012345010008\"", "'4012345010008", "EAN: 4012345010008", "0-306-40615-2", "080442957X", "４０１２３４５０１０００８", "4O12345010008",
+           "4,012345010008E+12", "401234501000", "9780306406", "0000000000000", "4.012.345.010.008", "#4012345010008.", "4012345010008 (EAN)",
            "(01)09501101530003(17)261231(10)LOT7", "(01)9501101530003", "(01)09501101530003(17)261331", "[10]A(B)C", "(10)A(B)", "(98765)1",
            "^10AB^17261231", "10AB\x1d17261231", "]C110AB^17261231", "]E04012345010008", "]E001234565", "]E04012345010375", "]E3abc",
            "https://id.gs1.org/01/09501101530003", "https://example.com/x", "]Q1https://id.gs1.org/01/09501101530003"]
 NAMES = ["Haferkekse", "Rye bread", "Käse, jung", "Blütenhonig \"cremig\"", "EAN reader", "", "שלום", "🍎 Apfel", "x" * 400, "a\nb", "u\u0308ber"]
-PRICES = ["2,90", "2.90 €", "€ 1.10", "1,10 €/Stk", "", "12345,67", "CHF 3.50", "x"]
+PRICES = ["2,90", "2.90 €", "€ 1.10", "1,10 €/Stk", "", "12345,67", "CHF 3.50", "x", "1.299", "1.299,00", "2,9", "2", "-1,00", "0,00", "3.–", "2,905", "1'234.50", "02. Sep"]
 HEADINGS = [["EAN", "GTIN", "Strichcode", "Code-barres", "Artikelnummer", "gs1", "EAN Karton", "Nummer", ""], ["Name", "Artikel", "Bezeichnung", "Libellé", "Towar", "x"],
-            ["Preis", "price", "Prix TTC", "Cena brutto", "VK (EUR)"], ["copies", "Etiketten", "Anzahl"], ["kind", "Art", "Codeart"], ["Zeile 1", "line2", "Text"]]
+            ["Preis", "price", "Prix TTC", "Cena brutto", "VK (EUR)", "EK", "UVP", "Preis in Cent", "Prix (JPY)", "Preis je kg", "Preis [Kiosk]"], ["copies", "Etiketten", "Anzahl"], ["kind", "Art", "Codeart"], ["Zeile 1", "line2", "Text"]]
 OTHERS = [["1", "3", "", "0", "1001", "-1", "²"], ["", "ean13", "EAN-8", "upce", "qr", "gs1128", "itf14"], ["1 kg = 4,79 €", "", "neu"]]
 PIECES = ['"', ";", ",", "\t", "\r", "\n", "(01)", "^", "ü", "u\u0308", "9" * 30, "E+12", "€", " ", "\xa0", "-", "=" * 300, "\x1d", "copies", "2000", "{}", "<&>",
           "]E0", "[10]", "https://", "\x1f", "sep=;\n", "gtin", "\0", "\ufeff", "ß", "ł", "²", "\u2007"]
@@ -62,30 +68,62 @@ def made(count):
         yield chance.choice([b"PK\x03\x04", b"%PDF-", b"\x89PNG", b"\x1f\x8b"]) + data if number % 500 == 7 else data
 
 
+def of_shops():
+    """The lists of tests/labels, and 1,000 that its generator damages."""
+    for path in sorted(glob.glob(f"{LISTS}/lists/*") + glob.glob(f"{LISTS}/saved/ways/*.csv")):
+        with open(path, "rb") as file:
+            yield file.read()
+    for number in range(1_000):
+        yield damaged(92, number).saved()
+
+
 def by_python(data):
     """The command's answer in the page's form, without its options."""
+    unused, passed, opened = [], [], []
     try:
-        articles, faults = articles_of(table_of(data, 2026), 2026)
+        table = table_of(data, 2026)
+        articles, faults = articles_of(table, 2026)
+        unused, passed, opened = list(table.unused), list(table.passed), list(table.opened)
+        faults = sorted([*([table.question] if table.question else []), *faults])
     except Faults as error:
-        articles, faults = [], error.faults
+        articles, faults = [], sorted(error.faults)
     told = [[it.line, it.kind.name.lower(), it.text, it.name, it.price, list(it.lines), it.copies] for it in articles]
-    return {"articles": told, "faults": [[it.line, re.sub(r", as in --column .*|: noriladle read takes it$", "", it.said, flags=re.DOTALL)] for it in faults]}
+    return {"articles": told, "faults": [[it.line, plainly(it.said)] for it in faults], "unused": unused, "passed": passed, "opened": opened}
+
+
+def plainly(said):
+    """An error without the command's options."""
+    return re.sub(r", as in --(column|no-price|encoding) ?.*|: noriladle read takes it$| \(--free\)$", "", said, flags=re.DOTALL)
+
+
+def answers_of(lists):
+    """The command's answers. They are kept in the file that ANSWERS names, if it does."""
+    path = os.environ.get("ANSWERS", "")
+    if os.path.exists(path):
+        with open(path, encoding="utf-8") as file:
+            return json.load(file)
+    answers = [by_python(data) for data in lists]
+    if path:
+        with open(path, "w", encoding="utf-8") as file:
+            json.dump(answers, file)
+    return answers
 
 
 def main():
-    lists = list(made(int(sys.argv[1])))
+    shops, lists = list(of_shops()), list(made(int(sys.argv[1])))
+    lists = shops + lists
     asked = "".join(base64.b64encode(it).decode() + "\n" for it in lists)
     told = subprocess.run(["node", f"{ROOT}/tests/page/lists_in_node.js"], input=asked.encode(), stdout=subprocess.PIPE, check=True).stdout.decode().split("\n")[:-1]
     differ = good = faulty = 0
-    for data, line in zip(lists, told):
-        page, wanted = json.loads(line), by_python(data)
+    for data, line, wanted in zip(lists, told, answers_of(lists)):
+        page = json.loads(line)
         good, faulty = good + len(wanted["articles"]), faulty + len(wanted["faults"])
         if page != wanted:
             differ += 1
             if differ <= 20:
                 print(f"differs: {data!r}\n  page   {page}\n  Python {wanted}", file=sys.stderr)
-    print(f"{len(told)} of {len(lists)} lists, {good} articles and {faulty} faulty lines: page and command differ in {differ}")
-    return differ != 0 or len(told) != len(lists) or good < len(lists) / 2 or faulty < len(lists) / 2
+    print(f"{len(told)} of {len(lists)} lists, {len(shops)} of them of shops, {good} articles and {faulty} faulty lines: page and command differ in {differ}")
+    return differ != 0 or len(told) != len(lists) or len(shops) < 1_060 or good < len(lists) / 2 or faulty < len(lists) / 2
 
 
 if __name__ == "__main__":

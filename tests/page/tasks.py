@@ -87,12 +87,13 @@ def labels(person, stocks):
     browser.click("#tab-labels")
     text = listed(made).replace(right, wrong) + "4,01235E+12;Saft;1,00\n;ohne;2,00\n"
     browser.fill("#list", text)
-    person.waits("labels of a list with faults", "labels-told", f"{person.page('labelCount', COUNT - 1)} {person.page('onSheets1')} · {person.page('leftOut', 3)}")
+    person.waits("labels of a list with faults", "labels-told", f"{person.page('labelCount', COUNT - 1)} {person.page('onSheets1')} · {person.page('leftOut', 2)}")
+    person.same("a line without a number", browser.text("list-notes"), person.fault("passed1", 1, COUNT + 3))
     told = browser.text("fault-list")
-    for what, fault in (("a wrong digit", person.fault("checkDigit", right)), ("a rounded number", person.fault("rounded")), ("no number", person.fault("noNumber"))):
+    for what, fault in (("a wrong digit", person.fault("checkDigit", right)), ("a rounded number", person.fault("rounded"))):
         person.same(f"what is told of {what}", fault in told, True)
     browser.click("#fault-list button.small")
-    person.waits("a number that was put right", "labels-told", f"{person.page('labelCount', COUNT)} {person.page('onSheets1')} · {person.page('leftOut', 2)}")
+    person.waits("a number that was put right", "labels-told", f"{person.page('labelCount', COUNT)} {person.page('onSheets1')} · {person.page('leftOut1')}")
     browser.fill("#list", listed(made))
     for stock in stocks:
         *_, (wide, high), dpi = STOCKS[stock]
