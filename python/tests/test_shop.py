@@ -412,7 +412,7 @@ def test_a_cut_picture_does_not_stop_the_others(picture, capsys):
     assert status == 2 and [line.rsplit("\t", 1)[0] for line in out] == [f"a.png\t{LINE}"]
     assert [line.partition(":")[0] for line in err] == ["cut.png", "head.png", "white.png"]
     assert told(["read", "white.png"], capsys) == (1, [], [
-        "white.png: no barcode was found: EAN, UPC, ITF-14 and GS1-128 are read, QR Codes and DataMatrix are not; "
+        "white.png: no barcode was read: EAN, UPC, ITF-14 and GS1-128 are read, QR Codes and DataMatrix are not; "
         "docs/PICTURES.md says what a picture needs"])
 
 

@@ -64,8 +64,39 @@ const BY_LEVELS: Look = Look {
     ..BETWEEN_TURNS
 };
 
-/// The looks, each if those before found nothing.
+/// The looks, each if those before found nothing. Those between turns read smaller bars, and cost more.
 pub(crate) const LOOKS: [Look; 10] = [
+    BY_LEVELS,
+    Look {
+        lines: 3,
+        rows: 60,
+        is_aslant: true,
+        is_by_sides: true,
+        ..BY_LEVELS
+    },
+    Look {
+        lines: 9,
+        rows: 40,
+        is_aslant: true,
+        cleared: Cleared::Small,
+        around: 12,
+        ..BY_LEVELS
+    },
+    Look {
+        lines: 3,
+        rows: 40,
+        is_aslant: true,
+        is_inverted: true,
+        ..BY_LEVELS
+    },
+    Look {
+        lines: 9,
+        rows: 24,
+        is_aslant: true,
+        cleared: Cleared::Large,
+        around: 12,
+        ..BY_LEVELS
+    },
     Look {
         rows: 24,
         sampling: Sampling::Dots,
@@ -99,37 +130,6 @@ pub(crate) const LOOKS: [Look; 10] = [
             least: 922,
         },
         ..BETWEEN_TURNS
-    },
-    BY_LEVELS,
-    Look {
-        lines: 3,
-        rows: 60,
-        is_aslant: true,
-        is_by_sides: true,
-        ..BY_LEVELS
-    },
-    Look {
-        lines: 9,
-        rows: 40,
-        is_aslant: true,
-        cleared: Cleared::Small,
-        around: 12,
-        ..BY_LEVELS
-    },
-    Look {
-        lines: 3,
-        rows: 40,
-        is_aslant: true,
-        is_inverted: true,
-        ..BY_LEVELS
-    },
-    Look {
-        lines: 9,
-        rows: 24,
-        is_aslant: true,
-        cleared: Cleared::Large,
-        around: 12,
-        ..BY_LEVELS
     },
 ];
 

@@ -33,6 +33,8 @@ DPI = 300
 _PATIENCE = 60
 """How many seconds pdftoppm may take for a page."""
 _MOST_PAGES, _MOST_BYTES = 10_000, 1_000_000_000
+_ADVICE = {13: "characterUnclear", 21: "leaveLight", 22: "comeNearer", 23: "comeNearer", 24: "digitUnclear"}
+"""What to do about a picture whose furthest row has this error: blur and small bars look like damage in a row."""
 _DAMAGES = (OSError, ValueError, SyntaxError, EOFError, IndexError, KeyError, TypeError, struct.error, zlib.error)
 """What Pillow raises for damaged files."""
 _PHOTOS_OF_TELEPHONES = (b"ftypheic", b"ftypheix", b"ftyphevc", b"ftypmif1", b"ftypmsf1", b"ftypavif")
@@ -96,8 +98,11 @@ def run(words: argparse.Namespace) -> int:
 
 
 def _why(reason: Optional[Refusal]) -> str:
-    """Why the row that came furthest was not read."""
-    return f": {reason}: {said(reason.number, '')}" if reason else ""
+    """Why a picture shows no barcode that is read, by the row that came furthest, and what to do."""
+    if reason is None:
+        return f": {told('kindsRead')}"
+    advice = _ADVICE.get(reason.number)
+    return f": {reason}: {told(advice) if advice else said(reason.number, '')}"
 
 
 def _line(page: Page, symbol: Symbol, as_json: bool) -> str:
