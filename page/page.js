@@ -44,7 +44,7 @@ function changeYear({ target }) {
 function serve() {
   if (!/^https?:$/.test(location.protocol) || !isSecureContext) return;
   document.head.append(make("link", { rel: "manifest", href: "manifest.json" }));
-  navigator.serviceWorker?.register("worker.js");
+  navigator.serviceWorker?.register("worker.js").catch(tellOnline);
 }
 
 async function start() {

@@ -24,6 +24,7 @@ COMMANDS = (
     Command("labels", "Make labels from a list: names, prices and barcodes on label stock", "noriladle.commands.labels"),
     Command("check", "Check a list of numbers, element strings and scanned texts", "noriladle.commands.check"),
     Command("read", "Read the barcodes of photographs, scans and PDF files", "noriladle.commands.read"),
+    Command("page", "Serve the web page to this machine, or to telephones in the local network", "noriladle.commands.page"),
     Command("gateway", "Give scanners and tills the answers of one hub, over sockets", "noriladle.commands.gateway"),
     Command("scanner", "Read an ordinary scanner, and give its texts to a gateway or check them", "noriladle.commands.scanner"),
     Command("journal", "Print and check the journal of a gateway: each scan and its answer", "noriladle.commands.journal"),

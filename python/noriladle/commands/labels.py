@@ -85,6 +85,7 @@ def run(words: argparse.Namespace) -> int:
     words.output = words.output or f"labels.{words.to or 'pdf'}"
     form = _form(words)
     from .. import labels as shop
+    _need(shop.missing(form, bool(words.font)))
     columns, name = columns_of(words), name_of(words)
     dpi = words.dpi or (203 if form in _FOR_PRINTERS else 300)
     look = shop.Look(dpi, words.module, words.bars, words.bearers, words.turn)
@@ -122,6 +123,11 @@ def run(words: argparse.Namespace) -> int:
     pages = "" if form in _FOR_PRINTERS else counted("onPages", made.sheets)
     tell(f"{counted('labels', made.count)}{pages}{_where(words.output, files)}")
     return REFUSED if made.left_out else RIGHT
+
+
+def _need(missing: str) -> None:
+    if missing:
+        raise WrongWords(missing)
 
 
 def _where(output: str, files: Sequence[Tuple[Path, bytes]]) -> str:

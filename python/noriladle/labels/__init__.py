@@ -8,15 +8,14 @@
 If a list has errors, nothing is made: :class:`Faults` has each with its line. The proved library reads each drawn label,
 which must say what the list says.
 
-Needs reportlab and Pillow: ``pip install noriladle[labels]``, or Debian's python3-reportlab.
+PDF needs reportlab, PNG and label printers need Pillow: ``pip install noriladle[labels]``, or Debian's python3-reportlab
+and python3-pil. SVG needs neither. All need a TrueType font.
 """
 from __future__ import annotations
 
 import re
 from dataclasses import dataclass, replace
-from typing import Callable, Dict, Iterator, List, Mapping, NamedTuple, Optional, Sequence, Tuple, TypeVar
-
-from PIL import Image
+from typing import TYPE_CHECKING, Callable, Dict, Iterator, List, Mapping, NamedTuple, Optional, Sequence, Tuple, TypeVar
 
 from .. import Refusal, find
 from .._columns import Table, table_of
@@ -24,16 +23,19 @@ from .._lists import Fault, Faults
 from .._shop import said, sentence_of_lines, told
 from .._texts import remedy_of
 from ._articles import Article, articles_of
-from ._dots import epl_of, image_of, png_of, tspl_of, zpl_of
 from ._drawing import RESOLUTIONS, Cell, Drawing, Look, Warned, cell_of, rows_of
 from ._fonts import Fonts, fonts_of
 from ._layout import Item, Plan, drawn, module_of, plan_of
-from ._pages import Page, Placed, pdf_of, svg_of
+from ._needs import missing
+from ._pages import Page, Placed, svg_of
 from ._stocks import KNOWN, Stock, stock_of
 from ._symbols import IDENTIFIERS, bars_of
 
+if TYPE_CHECKING:
+    from PIL import Image
+
 __all__ = ["KNOWN", "RESOLUTIONS", "Article", "Fault", "Faults", "Fonts", "LabelWarning", "Labels", "Look",
-           "MOST_LABELS", "PriceList", "Stock", "fonts_of", "make", "read_list", "stock_of"]
+           "MOST_LABELS", "PriceList", "Stock", "fonts_of", "make", "missing", "read_list", "stock_of"]
 
 MOST_LABELS = 100_000
 """The most labels of a list, with all copies."""
@@ -112,6 +114,8 @@ class Labels:
 
     def pdf(self, title: str = "labels") -> bytes:
         """All pages."""
+        from ._pdf import pdf_of  # Only here reportlab is needed.
+
         return pdf_of(self.pages(), self.stock, self.look, title)
 
     def svgs(self) -> Iterator[str]:
@@ -120,22 +124,32 @@ class Labels:
 
     def pngs(self) -> Iterator[bytes]:
         """Each page."""
+        from ._dots import png_of  # Only for dots Pillow is needed.
+
         return (png_of(page, self.stock, self.look) for page in self.pages())
 
     def zpl(self) -> bytes:
         """All labels as ZPL II. The printer makes the copies itself."""
+        from ._dots import zpl_of
+
         return b"".join(zpl_of(image, copies) for image, copies in self._images())
 
     def epl(self) -> bytes:
         """All labels as EPL2."""
+        from ._dots import epl_of
+
         return b"".join(epl_of(image, self.look, copies) for image, copies in self._images())
 
     def tspl(self) -> bytes:
         """All labels as TSPL."""
+        from ._dots import tspl_of
+
         return b"".join(tspl_of(image, self.stock, copies) for image, copies in self._images())
 
     def _images(self) -> Iterator[Tuple[Image.Image, int]]:
         """The dots of each label, and how many copies it has."""
+        from ._dots import image_of
+
         return ((image_of(drawing, self.look.turned), article.copies) for article, drawing in self.drawings if article.copies)
 
 

@@ -1,6 +1,7 @@
 """The fonts of labels: the widths of texts, and how they fill lines."""
 from __future__ import annotations
 
+import importlib.util
 import os
 import re
 import unicodedata
@@ -9,21 +10,16 @@ from functools import lru_cache
 from pathlib import Path
 from typing import Dict, List, Mapping, NamedTuple, Optional, Sequence, Tuple
 
-try:
-    import reportlab
-    from reportlab.pdfbase import pdfmetrics
-    from reportlab.pdfbase.ttfonts import TTFError, TTFont
-except ImportError as error:
-    raise ImportError("labels need reportlab: apt-get install python3-reportlab, or pip install 'noriladle[labels]'") from error
+from ._truetype import Metrics, NoFont, metrics_of
 
-_FOLDERS = ("/usr/share/fonts", "/usr/local/share/fonts", "~/.local/share/fonts", "~/.fonts", "/Library/Fonts", "C:/Windows/Fonts",
-            str(Path(reportlab.__file__).with_name("fonts")))
+_FOLDERS = ("/usr/share/fonts", "/usr/local/share/fonts", "~/.local/share/fonts", "~/.fonts", "/Library/Fonts", "C:/Windows/Fonts")
 _USUAL = (("LiberationSans-Regular.ttf", "LiberationSans-Bold.ttf"), ("Arial.ttf", "Arial Bold.ttf"), ("arial.ttf", "arialbd.ttf"),
           ("DejaVuSansCondensed.ttf", "DejaVuSansCondensed-Bold.ttf"), ("DejaVuSans.ttf", "DejaVuSans-Bold.ttf"), ("Vera.ttf", "VeraBd.ttf"))
 """Pairs of a regular and a bold font. The first that is installed is used; the last comes with reportlab."""
 
 _MOST_LETTERS = 300
 """A longer text has no room on any label."""
+NO_FONT = "no font was found: apt-get install fonts-liberation, or name a regular and a bold one by --font"
 
 
 @dataclass(frozen=True)
@@ -42,16 +38,15 @@ class Font:
 
     def lacks(self, text: str) -> List[str]:
         """The characters of a text that it lacks, or that do not stand from left to right, one after another."""
-        known = pdfmetrics.getFont(self.name).face.charToGlyph
-        return sorted(letter for letter in set(text) - {"\n"} if ord(letter) not in known or _is_not_set(letter))
+        return sorted(letter for letter in set(text) - {"\n"} if letter not in self.widths or _is_not_set(letter))
 
 
 class _Widths(Dict[str, float]):
     """The widths of characters. One that the font lacks is as wide as its sign for missing characters."""
 
-    def __init__(self, widths: Mapping[int, float], other: float) -> None:
-        super().__init__((chr(code), width / 1000) for code, width in widths.items())
-        self.other = other / 1000
+    def __init__(self, metrics: Metrics) -> None:
+        super().__init__(metrics.widths)
+        self.other = metrics.other
 
     def __missing__(self, letter: str) -> float:
         return self.other
@@ -98,27 +93,31 @@ def fonts_of(regular: Optional[str] = None, bold: Optional[str] = None) -> Fonts
     paths = [Path(regular), Path(bold or regular)] if regular else _found()
     try:
         return Fonts(_loaded(paths[0], False), _loaded(Path(bold) if bold else paths[1], True))
-    except (TTFError, OSError) as error:
+    except (NoFont, OSError) as error:
         raise ValueError(f"this is no TrueType font: {error}") from error
 
 
 def _found() -> List[Path]:
     there: Dict[str, Path] = {}
-    for folder in _FOLDERS:
+    for folder in (*_FOLDERS, *_of_reportlab()):
         for inside, _, names in os.walk(os.path.expanduser(folder)):
             for name in names:
                 there.setdefault(name, Path(inside, name))
     for pair in _USUAL:
         if all(name in there for name in pair):
             return [there[name] for name in pair]
-    raise ValueError("no font was found: apt-get install fonts-liberation, or name a regular and a bold one by --font")
+    raise ValueError(NO_FONT)
+
+
+def _of_reportlab() -> List[str]:
+    """The folder of the fonts that come with reportlab, if it is installed."""
+    spec = importlib.util.find_spec("reportlab")
+    return [os.path.join(place, "fonts") for place in (spec and spec.submodule_search_locations) or []]
 
 
 @lru_cache(maxsize=None)
 def _loaded(path: Path, is_bold: bool) -> Font:
-    font = TTFont(path.stem, str(path))
-    pdfmetrics.registerFont(font)
-    return Font(path, path.stem, is_bold, _Widths(font.face.charWidths, font.face.defaultWidth))
+    return Font(path, path.stem, is_bold, _Widths(metrics_of(path)))
 
 
 @lru_cache(maxsize=4096)

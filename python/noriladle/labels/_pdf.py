@@ -1,0 +1,68 @@
+"""Labels on pages, as PDF: each bar at its dots, and texts as texts. Needs reportlab."""
+from __future__ import annotations
+
+import io
+from functools import lru_cache
+from typing import Iterable
+
+from reportlab.pdfbase import pdfmetrics
+from reportlab.pdfbase.ttfonts import TTFError, TTFont
+from reportlab.pdfgen.canvas import Canvas
+
+from ._drawing import Drawing, Look
+from ._fonts import Font
+from ._pages import Page
+from ._stocks import Stock
+
+_INSET = 0.05
+"""How many dots PDF lacks at each edge of a box, since some programs blacken every dot that a box touches."""
+_POINTS = 72 / 25.4
+
+
+def pdf_of(pages: Iterable[Page], stock: Stock, look: Look, title: str) -> bytes:
+    """All pages as one PDF, for printing at 100 %."""
+    out, point = io.BytesIO(), _POINTS / look.dots
+    width, height = (length * _POINTS for length in stock.page)
+    canvas = Canvas(out, pagesize=(width, height), invariant=1, pageCompression=1)
+    canvas.setTitle(title)
+    canvas.setCreator("noriladle")
+    canvas.setAuthor("")
+    canvas.setSubject("")
+    canvas.setViewerPreference("PrintScaling", "None")
+    for page in pages:
+        for placed in page:
+            canvas.saveState()
+            canvas.transform(point, 0, 0, point, placed.left * point, height - placed.top * point)
+            if look.turned:
+                canvas.transform(0, -1, 1, 0, placed.drawing.height, 0)
+            _draw_pdf(canvas, placed.drawing)
+            canvas.restoreState()
+        canvas.showPage()
+    canvas.save()
+    return out.getvalue()
+
+
+def _draw_pdf(canvas: Canvas, drawing: Drawing) -> None:
+    """Draws a label below the origin, in dots. Its boxes are one path, whose origin moves by what they lack."""
+    boxes = [f"{left} {-top - height} {width - 1}.9 {height - 1}.9 re" for left, top, width, height in drawing.boxes]
+    canvas.addLiteral("\n".join([f"q 1 0 0 1 {_INSET} {_INSET} cm", *boxes, "f Q"]))
+    for text in drawing.texts:
+        canvas.setFont(_set_in(text.font), text.size)
+        if text.cell:
+            space = text.cell - text.font.width("0", text.size)
+            canvas.drawString(text.left + space / 2, -text.base, text.text, charSpace=space)
+        else:
+            canvas.drawString(text.start, -text.base, text.text)
+
+
+@lru_cache(maxsize=None)
+def _set_in(font: Font) -> str:
+    """The name of a font in PDF files, which are to have it.
+
+    :raises ValueError: reportlab cannot put it into PDF files.
+    """
+    try:
+        pdfmetrics.registerFont(TTFont(font.name, str(font.path)))
+    except TTFError as error:
+        raise ValueError(f"{font.path}: this font cannot stand in PDF files: {error}") from error
+    return font.name

@@ -1,0 +1,240 @@
+"""``./noriladle`` of a clone: read-only, by another user, from a zip, with a stale or damaged release, and on a bare Debian."""
+import importlib.util
+import os
+import re
+import shutil
+import subprocess
+import sys
+import tempfile
+import zipfile
+from pathlib import Path
+
+import pytest
+
+ROOT = Path(__file__).resolve().parents[2]
+SHELF = "examples/shelf.csv"
+NOBODY = 65534
+NEEDED = ("VERSION", "crates.txt", "crates/digits_core/", "embed/", "examples/shelf.csv", "noriladle", "package/", "page/", "python/", "release/",
+          "shop/", "tables/remedies")
+"""What copies have of the clone. Their release says that it is of these few sources."""
+
+
+def _names():
+    if not (ROOT / ".git").exists():
+        pytest.skip("this is no clone")
+    words = ["git", "-C", str(ROOT), "ls-files", "-z", "--cached", "--others", "--exclude-standard"]
+    told = subprocess.run(words, check=True, stdout=subprocess.PIPE).stdout.decode().split("\0")
+    return [name for name in told if name.startswith(NEEDED) and (ROOT / name).exists()]
+
+
+@pytest.fixture(scope="module", name="whole")
+def _whole(tmp_path_factory):
+    """A copy of the clone that is never changed."""
+    folder = tmp_path_factory.mktemp("whole") / "clone"
+    for name in _names():
+        (folder / name).parent.mkdir(parents=True, exist_ok=True)
+        shutil.copy2(ROOT / name, folder / name, follow_symlinks=False)
+    told, manifest = sources_of(folder), folder / "release" / "MANIFEST"
+    manifest.write_text(re.sub("^sources .*$", f"sources {told}", manifest.read_text("ascii"), flags=re.MULTILINE), "ascii")
+    return folder
+
+
+def sources_of(clone):
+    """The sum of a clone's sources, by its script."""
+    return subprocess.run([str(clone / "package" / "sources")], check=True, stdout=subprocess.PIPE, text=True).stdout.strip()
+
+
+@pytest.fixture(name="clone")
+def _clone(whole, tmp_path):
+    """A copy that a test may change."""
+    shutil.copytree(whole, tmp_path / "clone", symlinks=True)
+    return tmp_path / "clone"
+
+
+@pytest.fixture(name="bare")
+def _bare(tmp_path_factory):
+    """The environment of a Python without any module of others."""
+    folder = tmp_path_factory.mktemp("bare")
+    subprocess.run(["/usr/bin/python3" if Path("/usr/bin/python3").exists() else sys.executable, "-m", "venv", "--without-pip", str(folder)],
+                   check=True)
+    return {"VIRTUAL_ENV": str(folder), "PATH": f"{folder}/bin:/usr/bin:/bin"}
+
+
+def ran(clone, *words, cache, shell=(), **more):
+    """What the command of a clone answers."""
+    env = {"PATH": os.environ["PATH"], "LC_ALL": "C.UTF-8", "HOME": "/nonexistent", "XDG_CACHE_HOME": str(cache), **more.pop("env", {})}
+    return subprocess.run([*shell, str(clone / "noriladle"), *words], cwd=clone, env=env, stdout=subprocess.PIPE,
+                          stderr=subprocess.PIPE, text=True, check=False, **more)
+
+
+def listing(folder):
+    """The files of a folder with their sizes and times."""
+    return sorted((str(path), path.lstat().st_size, path.lstat().st_mtime_ns) for path in folder.rglob("*"))
+
+
+def test_it_answers_and_leaves_the_clone_as_it_is(whole, tmp_path):
+    before = listing(whole)
+    for _ in range(2):
+        run = ran(whole, "check", "-", cache=tmp_path, input="9501101530003\n")
+        assert (run.returncode, run.stderr) == (0, "") and run.stdout.endswith("(01)09501101530003\n")
+    run = ran(whole, "page", "--address", "192.168.1.5", cache=tmp_path)
+    assert run.returncode == 2 and "--address is for --share" in run.stderr
+    assert len([*next(tmp_path.glob("noriladle/clones/*/noriladle/page")).iterdir()]) > 20
+    assert listing(whole) == before
+
+
+def test_a_read_only_clone_of_another_user(whole):
+    if os.getuid():
+        pytest.skip("only root can become another user")
+    with tempfile.TemporaryDirectory() as top:
+        os.chmod(top, 0o755)
+        clone, cache = Path(top, "clone"), Path(top, "cache")
+        shutil.copytree(whole, clone, symlinks=True)
+        cache.mkdir()
+        os.chown(cache, NOBODY, NOBODY)
+        before = listing(clone)
+        run = ran(clone, "check", "-", cache=cache, input="9501101530003\n", user=NOBODY, group=NOBODY, extra_groups=[])
+        assert (run.returncode, run.stderr) == (0, "")
+        assert listing(clone) == before and {path.lstat().st_uid for path in cache.rglob("*")} == {NOBODY}
+
+
+def test_a_clone_from_a_zip(whole, tmp_path):
+    """A zip keeps no permissions, if Python unpacks it."""
+    with zipfile.ZipFile(tmp_path / "clone.zip", "w") as packed:
+        for path in whole.rglob("*"):
+            packed.write(path, path.relative_to(whole))
+    with zipfile.ZipFile(tmp_path / "clone.zip") as packed:
+        packed.extractall(tmp_path / "zipped")
+    run = ran(tmp_path / "zipped", "--version", cache=tmp_path / "cache", shell=["sh"])
+    assert run.returncode == 0 and run.stdout.startswith("noriladle ") and run.stderr == ""
+
+
+def test_without_modules(whole, tmp_path, bare):
+    """SVG needs nothing but Python and a font; what the others need is named with one command."""
+    def made(form, *more):
+        out = tmp_path / f"labels.{form}"
+        run = ran(whole, "labels", SHELF, "-o", str(out), *more, cache=tmp_path / "cache", env=bare)
+        return run.returncode, run.stderr.splitlines()[-1], out.exists()
+
+    assert made("svg") == (0, f"21 labels on 1 page in {tmp_path}/labels.svg", True)
+    assert made("pdf") == (2, "noriladle: PDF needs reportlab: apt-get install python3-reportlab", False)
+    for form in ("png", "zpl", "epl", "tspl"):
+        assert made(form) == (2, f"noriladle: {form.upper()} needs Pillow: apt-get install python3-pil", False)
+
+
+def test_without_a_font(monkeypatch):
+    from noriladle.labels import _fonts, missing
+
+    monkeypatch.setattr(_fonts, "_FOLDERS", ())
+    monkeypatch.setattr(_fonts, "_of_reportlab", lambda: [])
+    monkeypatch.setattr(importlib.util, "find_spec", lambda name: None)
+    assert missing("pdf", False) == "PDF needs reportlab and a font: apt-get install python3-reportlab fonts-liberation"
+    assert missing("zpl", False) == "ZPL needs Pillow and a font: apt-get install python3-pil fonts-liberation"
+    assert missing("svg", False) == "SVG needs a font: apt-get install fonts-liberation"
+    assert missing("svg", True) == ""
+
+
+def test_a_stale_release_is_said_in_one_line(clone, tmp_path):
+    assert ran(clone, "--version", cache=tmp_path / "cache").stderr == ""
+    source = clone / "crates" / "digits_core" / "src" / "lib.rt"
+    before = source.read_bytes()
+    source.write_bytes(before + b"\n")
+    for _ in range(2):
+        run = ran(clone, "--version", cache=tmp_path / "cache")
+        assert run.returncode == 0 and run.stderr.count("\n") == 1 and "the sources here differ" in run.stderr
+    (clone / "crates" / "digits_core" / "README.md").write_text("a page is no source")
+    source.write_bytes(before)
+    assert ran(clone, "--version", cache=tmp_path / "cache").stderr == ""
+
+
+@pytest.mark.parametrize("spoil", ["cut", "other", "gone", "manifest"])
+def test_a_damaged_release(clone, tmp_path, spoil):
+    packed = clone / "release" / os.uname().machine / "libgs1.so.gz"
+    if spoil == "cut":
+        packed.write_bytes(packed.read_bytes()[:5000])
+    elif spoil == "other":
+        shutil.copy(packed.with_name("gs1_hub.gz"), packed)
+    else:
+        (packed if spoil == "gone" else clone / "release" / "MANIFEST").unlink()
+    run = ran(clone, "--version", cache=tmp_path / "cache")
+    assert (run.returncode, run.stdout) == (69, "")
+    assert run.stderr.count("\n") == 1 and "git checkout -- release brings it back" in run.stderr
+
+
+def test_a_new_release_and_a_new_module_are_taken(clone, tmp_path):
+    ran(clone, "--version", cache=tmp_path / "cache")
+    (clone / "python" / "noriladle" / "_new.py").write_text("")
+    remedies = clone / "tables" / "remedies.tsv"
+    remedies.write_text(remedies.read_text("utf-8").replace("a digit", "some digit"), "utf-8")
+    (clone / "python" / "noriladle" / "streams.py").unlink()
+    assert ran(clone, "--version", cache=tmp_path / "cache").returncode == 0
+    folder = next((tmp_path / "cache" / "noriladle" / "clones").iterdir()) / "noriladle"
+    assert (folder / "_new.py").exists() and not (folder / "streams.py").is_symlink()
+    assert "some digit" in (folder / "remedies.json").read_text("utf-8")
+
+
+def test_a_cache_that_cannot_be_written(whole, tmp_path):
+    (tmp_path / "file").write_text("")
+    run = ran(whole, "--version", cache=tmp_path / "file")
+    assert run.returncode == 69 and run.stderr.count("\n") == 1 and "set XDG_CACHE_HOME" in run.stderr
+
+
+def test_a_full_disk(whole, tmp_path):
+    run = ran(whole, "--version", cache=tmp_path / "cache", preexec_fn=_small)
+    assert run.returncode == 69 and run.stderr.count("\n") == 1 and "File too large; set XDG_CACHE_HOME" in run.stderr
+    assert ran(whole, "--version", cache=tmp_path / "cache").returncode == 0
+
+
+def _small():
+    import resource
+    import signal
+
+    signal.signal(signal.SIGXFSZ, signal.SIG_IGN)
+    resource.setrlimit(resource.RLIMIT_FSIZE, (100_000, 100_000))
+
+
+def test_without_python(whole, tmp_path):
+    (tmp_path / "bin").mkdir()
+    for tool in ("readlink", "dirname"):
+        (tmp_path / "bin" / tool).symlink_to(shutil.which(tool))
+    run = ran(whole, "--version", cache=tmp_path / "cache", shell=[shutil.which("sh")],
+              env={"PATH": str(tmp_path / "bin"), "VIRTUAL_ENV": str(tmp_path)})
+    assert (run.returncode, run.stderr) == (69, "noriladle: there is no python3: apt-get install python3\n")
+
+
+def test_several_starts_at_once(whole, tmp_path):
+    env = {**os.environ, "XDG_CACHE_HOME": str(tmp_path)}
+    runs = [subprocess.Popen([str(whole / "noriladle"), "--version"], stdout=subprocess.PIPE, stderr=subprocess.PIPE, env=env) for _ in range(6)]
+    assert {(run.communicate()[1], run.returncode) for run in runs} == {(b"", 0)}
+
+
+def test_the_sum_of_the_sources_is_that_of_the_scripts(clone, monkeypatch):
+    monkeypatch.syspath_prepend(str(clone / "python"))
+    spec = importlib.util.spec_from_file_location("from_clone", clone / "python" / "from_clone.py")
+    from_clone = importlib.util.module_from_spec(spec)
+    spec.loader.exec_module(from_clone)
+    for name in ("out/new", "src/out/new", "must-fail/new.edit", "README.md", "specs/README.md", "src/new.rt"):
+        path = clone / "crates" / "digits_core" / name
+        path.parent.mkdir(parents=True, exist_ok=True)
+        path.write_text("new")
+    assert from_clone.sum_of([*from_clone.sources()]) == sources_of(clone)
+
+
+def test_the_page_is_that_of_its_script(clone, monkeypatch):
+    """Each file has the same bytes, except that the constants of shop/ may stand in another order."""
+    monkeypatch.syspath_prepend(str(clone / "python"))
+    spec = importlib.util.spec_from_file_location("page_from_clone", clone / "python" / "page_from_clone.py")
+    made = importlib.util.module_from_spec(spec)
+    spec.loader.exec_module(made)
+    module = __import__("gzip").decompress((clone / "release" / "wasm64" / "gs1_c.wasm.gz").read_bytes())
+    folder = clone.parent / "page"
+    made.put_page(clone, folder, module, lambda path, data: path.write_bytes(data))
+    subprocess.run([str(clone / "page" / "build")], check=True, stdout=subprocess.DEVNULL, stderr=subprocess.DEVNULL)
+    built = clone / "page" / "out" / "noriladle-page"
+    assert sorted(os.listdir(folder)) == sorted(os.listdir(built))
+    for path in built.iterdir():
+        ours, theirs = (folder / path.name).read_text("latin-1"), path.read_text("latin-1")
+        if path.name == "shop.js":
+            ours, theirs = (sorted(text.replace("\nTEXTS.", "\nconst TEXTS.").split("\nconst ")) for text in (ours, theirs))
+            ours, theirs = ([it.strip() for it in parts] for parts in (ours, theirs))
+        assert ours == theirs, path.name
