@@ -91,7 +91,7 @@ def rows_of(data):
 
 def test_cells_of_each_kind():
     strings = '<sst><si><r><t>a</t></r><r><t>b</t></r><rPh><t>no</t></rPh></si></sst>'
-    data = book('<row r="2"><c r="B2" t="s"><v>0</v></c><c r="C2" t="inlineStr"><is><t>x_x000A_y</t></is></c><c t="b"><v>1</v></c></row>'
+    data = book('<row r="2"><c r="B2" t="s"><v>0</v></c><c r="C2" t="inlineStr"><is><t>x_x000A_y</t><rPh><t>no</t></rPh></is></c><c t="b"><v>1</v></c></row>'
                 '<row r="4" hidden="1"><c r="A4"><v>2.9</v></c><c r="B4" t="e"><v>#N/A</v></c><c r="C4" t="str"><f>x</f><v></v></c></row>'
                 '<row r="5"><c r="AA5"><f>1+1</f></c></row>', '<row><c><v>1</v></c></row>', **{"xl/sharedStrings.xml": strings})
     assert rows_of(data) == (
@@ -134,7 +134,7 @@ def test_cells_of_an_ods():
 
 @pytest.mark.parametrize("data, said", [
     (b"PK\x03\x04 no archive", "damaged"), (book("<row"), "damaged"), (book('<row><c r="ZZZZ1"><v>1</v></c></row>'), "damaged"),
-    (book('<row><c t="s"><v>7</v></c></row>'), "damaged"), (ods("<!DOCTYPE x>"), "damaged"),
+    (book('<row><c t="s"><v>7</v></c></row>'), "damaged"), (ods("", **{"content.xml": "<!DOCTYPE d><d/>"}), "damaged"),
     (book("").replace(b"xl/workbook.xml", b"xl/nothing.xmlx"[:15]), "compressed file"),
     (ods("", **{"META-INF/manifest.xml": "<manifest:encryption-data/>"}), "password"),
     (b"\xd0\xcf\x11\xe0" + "EncryptedPackage".encode("utf-16-le"), "password"), (b"\xd0\xcf\x11\xe0", "old format"),

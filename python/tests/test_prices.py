@@ -128,6 +128,7 @@ def test_what_other_cells_and_words_say_of_a_price():
     (f"EAN;Artikel;Preis\n{OATS};2,90;1,45\n", {2: "'2,90' stands where the name is"}),
     (f"EAN;Artikel;Preis\n{OATS};Kekse;2,90\n{RYE};Brot;3\n{OATS};Kekse;2,50\n", {2: "line 4 has the same number", 4: "line 2 has the same"}),
     (f"EAN;Artikel;Preis\n{OATS};Kekse;2,90\n;{OATS};Kekse;2,90\n", {2: "line 3 has the same number", 3: "this line has no number"}),
+    (f'EAN;Artikel;Preis\n{OATS};Kekse;2,90\n{OATS};"x"y;1,00\n', {2: "line 3 has the same number", 3: "this line is not CSV"}),
     ("EAN;Artikel;Preis\n0000000000000;x;1,00\n", {2: "a number of zeros alone"}),
     (f"EAN;Artikel;Preis\n#N/V;x;1,00\n{OATS};y;1,00\n", {2: "refused 1 Length"}),
 ])

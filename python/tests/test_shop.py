@@ -228,15 +228,15 @@ def test_lines_that_are_left_out(folder, capsys):
 
 def test_a_list_is_corrected(folder, capsys):
     cells = ['"=""4012345010008"""', "'4012345010008", "EAN: 4012345010008", "4,012345010008E+12", "12345000065", "3-16-148410-X", "４０１２３４５０１０００８",
-             "4012345010008", "4012345010375"]
+             "978-3-16-148410-0", '="00000000"', "4012345010375"]
     save("a.csv", "Preisliste;\nEAN;Name\n" + "".join(f"{cell};x\n" for cell in cells) + "Summe;\n")
     status, out, err = told(["check", "a.csv", "--fix", "-o", "b.csv"], capsys)
     assert (status, out) == (1, [])
-    assert err[-2:] == ["a.csv:11: refused 3 CheckDigit: a digit is wrong; if it is the last one, 4012345010374 is right", "7 lines corrected in b.csv"]
-    assert "a.csv:6: '4,012345010008E+12' is 4012345010008" in err and "a.csv: 1 line without a number is passed over: 12" in err
+    assert err[-2:] == ["a.csv:12: refused 3 CheckDigit: a digit is wrong; if it is the last one, 4012345010374 is right", "8 lines corrected in b.csv"]
+    assert "a.csv:6: '4,012345010008E+12' is 4012345010008" in err and "a.csv: 1 line without a number is passed over: 13" in err
     with open("b.csv", encoding="utf-8-sig") as file:
         rows = [line.split(";")[0] for line in file.read().splitlines()]
-    assert rows == ["Preisliste", "EAN", *["4012345010008"] * 4, "012345000065", "9783161484100", "4012345010008", "4012345010008", "4012345010375", "Summe"]
+    assert rows == ["Preisliste", "EAN", *["4012345010008"] * 4, "012345000065", "9783161484100", "4012345010008", "9783161484100", '"=""00000000"""', "4012345010375", "Summe"]
     assert told(["check", "b.csv", "--fix", "-o", "-"], capsys)[1][2] == "4012345010008;x"
     for words in (["--fix"], ["-o", "b.csv"]):
         assert told(["check", "a.csv", *words], capsys) == (2, [], ["noriladle: --fix and -o FILE go together: write both, as in --fix -o fixed.csv"])
