@@ -28,7 +28,7 @@ COMMANDS = (
     Command("gateway", "Give scanners and tills the answers of one hub, over sockets", "noriladle.commands.gateway"),
     Command("scanner", "Read an ordinary scanner, and give its texts to a gateway or check them", "noriladle.commands.scanner"),
     Command("journal", "Print and check the journal of a gateway: each scan and its answer", "noriladle.commands.journal"),
-    Command("worker", "Answer the rows of lanes that tills submit to Redis", "noriladle.commands.worker"),
+    Command("worker", "Answer the rows that tills submit to Redis", "noriladle.commands.worker"),
     Command("till", "Submit rows to Redis, and print their answers", "noriladle.commands.till"),
 )
 """All subcommands, in the order of the help. A module is imported only when its command is asked for."""

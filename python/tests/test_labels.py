@@ -285,4 +285,4 @@ def test_it_says_what_is_not_installed(monkeypatch, capsys):
     monkeypatch.delattr(noriladle, "labels", raising=False)
     monkeypatch.setitem(sys.modules, "reportlab", None)
     assert main(["labels", "a.csv", "-o", "a.pdf"]) == 2
-    assert "labels need reportlab: apt-get install python3-reportlab" in capsys.readouterr().err
+    assert "PDF needs reportlab: apt-get install python3-reportlab" in capsys.readouterr().err

@@ -34,7 +34,7 @@ def measure(name, words, seconds, megabytes=0):
 def main():
     chance = random.Random(1)
     names = ["Haferkekse", "Roggenbrot 500 g", "Apfelsaft 1 l", "Blütenhonig aus der Lüneburger Heide, cremig, 500 g", "Öl"]
-    rows = [f"{checked(f'4012345{number:05}')};{chance.choice(names)} {number};{chance.randrange(20)},{chance.randrange(100):02} €\n"
+    rows = [f"{checked(f'4012345{number:05}')};{chance.choice(names)} {number};{chance.randrange(1, 20)},{chance.randrange(100):02} €\n"
             for number in range(10_000)]
     for count in (1_000, 5_000, 10_000):
         with open(os.path.join(WORK, f"{count}.csv"), "w", encoding="utf-8") as file:

@@ -229,6 +229,10 @@ class Mistake:
                 [["EAN", "Name", "Preis"], [self.cell, NAME, "2,49"], ["4012345010374", "Bread", "3,19"]]
             )
 
+    def without_cell(self, line):
+        """A line without the cell, where it stands by itself and not in a longer number."""
+        return re.sub(rf"(?<!\d){re.escape(self.cell)}(?!\d)", "", line)
+
     def taken(self, number):
         """The answer, if the command takes this number for what was meant."""
         return "right" if self.may_correct and number.zfill(14) in self.meant else f"it took {number}"
@@ -244,7 +248,7 @@ class Mistake:
                 "asked" if any("passed over" in line for line in done.said) else "its line is dropped in silence"
             ), done
         named = set().union(
-            *(numbers_in(line.replace(self.cell, "")) for line in done.said if line.startswith("LIST:2:"))
+            *(numbers_in(self.without_cell(line)) for line in done.said if line.startswith("LIST:2:"))
         )
         if not any(line.startswith("LIST:2:") for line in done.said):
             return "its line is not named", done
@@ -266,9 +270,10 @@ class Mistake:
             return ("asked" if done.status == 1 else "nothing was written"), done
         with open(fixed, encoding="utf-8-sig", newline="") as file:
             cell = next(cells[0] for cells in csv.reader(file, delimiter=";") if NAME in cells)
-        return (
-            "asked" if done.status == 1 else "it was left as it was, with status 0"
-        ) if cell == self.cell else self.taken(cell), done
+        if cell != self.cell or (cell.isdigit() and numbers_in(cell) & self.meant):
+            return self.taken(cell), done
+        is_asked = done.status == 1 or any("passed over" in line for line in done.said)
+        return "asked" if is_asked else "it was left as it was, with status 0", done
 
 
 def try_mistakes():

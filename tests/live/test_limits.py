@@ -33,12 +33,12 @@ def scans(gateway, lane):
         scanner.send(f"scan {lane}\n".encode())
         first = int(scanner.line().split()[0])
         scanner.send(b"%d\n" % first)
-        while till.line() != f"{first} next\n":
-            pass
         for number in range(first, first + 20):
             begin = time.monotonic()
             scanner.send(b"%d %s\n" % (number, EAN))
-            assert till.line() == scanner.line() == f"{number} {READ}\n"
+            # The till gets the number of the next scan when it comes, and when the scanner says it.
+            answer = next(line for line in iter(till.line, "") if line != f"{first} next\n")
+            assert answer == scanner.line() == f"{number} {READ}\n"
             assert time.monotonic() - begin < 0.1
 
 

@@ -1,11 +1,11 @@
 """Make labels from a list: names, prices and barcodes on label stock
 
-LIST is a CSV file or a spreadsheet, .xlsx or .ods. Its headings say which column is gtin (or ean, upc) or gs1 (element
-strings), name, price, copies, kind (ean13, upca, ean8, upce, itf14 or gs1128) and line 1, line 2, .. in English, German, French, Spanish,
+LIST is a CSV file or a spreadsheet, .xlsx or .ods. Its headings say which column is gtin (or ean, upc) or gs1, name,
+price, copies, kind (ean13, upca, ean8, upce, itf14 or gs1128) and line 1, line 2, .. in English, German, French, Spanish,
 Italian, Dutch or Polish; a column of numbers without such a heading is found by its cells. If lines have errors, each is
 reported with what to do, nothing is written, and the status is 1; --leave-out makes the labels of the others. If
-several columns may be the price, the command asks, and --column price=HEADING answers. The end of FILE's name says the format:
-.pdf, .svg, .png, or .zpl, .epl, .tspl for a label printer. Print a PDF file at 100 %.
+several columns may be the price, the command asks, and --column price=HEADING answers. The end of FILE's name says the
+format: .pdf, .svg, .png, or .zpl, .epl, .tspl for a label printer. Print a PDF file at 100 %.
 
   $ noriladle labels prices.csv --stock L7160 -o labels.pdf
 """
