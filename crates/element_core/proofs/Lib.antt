@@ -23,6 +23,7 @@ pub mod Pieces
 pub mod RowsApart
 pub mod Shown
 pub mod TableLaws
+pub mod Taken
 pub mod TimeLemmas
 pub mod Total
 pub mod Unique

@@ -5,5 +5,6 @@ pub mod Families
 pub mod Growing
 pub mod Listings
 pub mod PartTests
+pub mod Reading
 pub mod Table
 pub mod Walks

@@ -6,13 +6,13 @@ ghost use Rattle.element_core.specs.Days.{IsDay};
 ghost use Rattle.element_core.specs.Rows.{entry_in};
 ghost use Rattle.element_core.specs.Elements.{Entry, IsElements, FirstFault, canonical, entry_day, entry_time, gtin_entry, hri, is_printable, pairs_text};
 
-use crate::draft::{append, gap_length};
+use crate::draft::{Draft, append, gap_length};
 use crate::element::{Element, named_of_element};
 use crate::fault::ElementFault;
-use crate::front::element_at;
 use crate::hri::{put_line, write_line};
 use crate::pair_line::pairs_of;
 use crate::pairs::{Pair, first_fault, needs_separator};
+use crate::reading::read_elements;
 use crate::shown_list::{count_of, element_of};
 use crate::terms::Year;
 use crate::text::{Text, copied};
@@ -71,22 +71,12 @@ impl Elements {
         ensures ok { IfOk result (λ es. (es.year ≡ year) × IsElements year text.now es.list) }
         ensures err { IfErr result (λ f. FirstFault year text.now f) }
     {
-        if text.len() > 192 {
-            return Err(ElementFault::TooLong);
-        }
-        if text.is_empty() {
-            return Err(ElementFault::Empty);
-        }
-        let mut out = Text::new();
-        let mut separate = false;
-        let mut rest = text;
-        while !rest.is_empty() {
-            let front = element_at(year, text.len() - rest.len(), rest)?;
-            append(&mut out, separate, front.ai, front.value);
-            separate = !front.family.predefined;
-            rest = front.rest;
-        }
-        Ok(Elements { text: out, year })
+        let mut draft = Draft::new();
+        read_elements(text, year, &mut draft)?;
+        Ok(Elements {
+            text: draft.text,
+            year,
+        })
     }
 
     /// The elements of pairs. Of no pairs the fault is `Empty`; else it is that of the first faulty
@@ -186,15 +176,8 @@ impl Elements {
         ensures { result.bytes ≡ hri self.now.list }
     {
         let mut line = ArrayString::new();
-        self.write_hri(&mut line);
+        write_line(self.text.as_slice(), &mut line);
         line
-    }
-
-    /// Writes the human-readable interpretation into a text, in the place of what it had.
-    pub fn write_hri(&self, line: &mut ArrayString<288>)
-        ensures { line.new.bytes ≡ hri self.now.list }
-    {
-        write_line(self.text.as_slice(), line);
     }
 
     /// Puts the human-readable interpretation into `out` from `at` on if there is room for all of it;

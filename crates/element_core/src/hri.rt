@@ -1,13 +1,16 @@
 //! The human-readable interpretation (GS1 General Specifications, section 4.14).
 
-ghost use Rattle.std.specs.Prelude.{◌≡◌, ◌+◌, ◌*◌, ◌/◌, ◌<◌, ◌≤◌, ◌∷◌, ◌++◌, length, All};
+ghost use Rattle.std.specs.Prelude.{◌≡◌, ◌+◌, ◌*◌, ◌/◌, ◌<◌, ◌≤◌, ◌∷◌, ◌++◌, length, All, IfErr, List, OnOk};
 ghost use Rattle.arrayvec.specs.ArrayString.{array_string_len};
 ghost use Rattle.digits_core.specs.Buffers.{pasted};
-ghost use Rattle.element_core.specs.Elements.{hri};
+ghost use Rattle.element_core.specs.Elements.{Entry, FirstFault, IsElements, hri};
 ghost use Rattle.element_core.specs.Shown.{shown_elements};
 ghost use Rattle.element_core.specs.inner.Walks.{AreAscii};
 
+use crate::fault::ElementFault;
 use crate::front::front_of;
+use crate::reading::{TakesElements, read_elements};
+use crate::terms::Year;
 use arrayvec::ArrayString;
 use digits_core::put_at;
 use std::str::from_utf8_unchecked;
@@ -41,6 +44,27 @@ pub(crate) fn push_element(line: &mut ArrayString<288>, ai: &[u8], value: &[u8])
     push_bytes(line, ai);
     line.push(')');
     push_bytes(line, value);
+}
+
+impl TakesElements for ArrayString<288> {
+    ghost use Rattle.std.specs.Prelude.{◌≡◌};
+    ghost use Rattle.element_core.specs.Elements.{hri};
+
+    ghost Holds = { λ line list. line.bytes ≡ hri list };
+
+    fn take(&mut self, ai: &[u8], value: &[u8], _predefined: bool) {
+        push_element(self, ai, value);
+    }
+}
+
+/// Writes the human-readable interpretation of an element string while it is read, in the place of what the line had, or
+/// answers the string's first fault.
+pub fn write_hri(text: &[u8], year: Year, line: &mut ArrayString<288>) -> Result<(), ElementFault>
+    ensures ok { OnOk result ((list : List Entry) × IsElements year text.now list × (line.new.bytes ≡ hri list)) }
+    ensures err { IfErr result (λ f. FirstFault year text.now f) }
+{
+    line.clear();
+    read_elements(text, year, line)
 }
 
 /// Writes the line of the elements that stand in a text, in the place of what the line had.

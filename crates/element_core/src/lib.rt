@@ -19,6 +19,7 @@ mod named;
 mod pair_line;
 mod pairs;
 mod part;
+mod reading;
 mod row;
 mod rules;
 mod shown_list;
@@ -34,6 +35,7 @@ pub use element::Element;
 pub use elements::Elements;
 pub use fault::ElementFault;
 pub use form::Form;
+pub use hri::write_hri;
 pub use laws::{
     canonical_reads, counts_rows, dated_elements, day_zero, each_text, faultless_pairs,
     first_digits_decide, gtin_reads, no_ai_begins_another, one_list_or_fault, pair_faults,

@@ -8,7 +8,7 @@ ghost use Rattle.element_core.specs.Lines.{IsDigitLine, IsElementsLine, elements
 
 use crate::elements::Elements;
 use crate::form::Form;
-use crate::hri::{ascii_str, push_bytes};
+use crate::hri::{ascii_str, push_bytes, write_hri};
 use crate::terms::Year;
 use arrayvec::ArrayString;
 use digits_core::{Gtin, Refusal, payload_digit};
@@ -146,12 +146,22 @@ pub fn digit_line(text: &[u8]) -> Line
     }
 }
 
-/// The line of an element string, a word and its elements in a form, or its first fault.
+/// The line of an element string, a word and its elements in a form, or its first fault. The human-readable form is written
+/// while the string is read.
 pub fn elements_line(word: &'static str, form: Form, text: &[u8], year: Year) -> Line
     ensures { IsElementsLine word.now (elements_text form) year text.now (line_text result) }
 {
-    match &Elements::parse(text, year) {
-        Ok(elements) => Line::of_elements(word, elements, form),
-        Err(fault) => Line::refused(fault.refusal()),
+    match form {
+        Form::HumanReadable => {
+            let mut said = ArrayString::new();
+            match write_hri(text, year, &mut said) {
+                Ok(()) => Line::Said { word, text: said },
+                Err(fault) => Line::refused(fault.refusal()),
+            }
+        }
+        Form::Pairs => match &Elements::parse(text, year) {
+            Ok(elements) => Line::of_elements(word, elements, form),
+            Err(fault) => Line::refused(fault.refusal()),
+        },
     }
 }

@@ -7,7 +7,7 @@ use Rattle.scan_core.specs.Reading.{IsFound}
 use Rattle.scan_core.specs.Reading.ReadSymbol.{Characters}
 use Rattle.scan_core.specs.Answers.{Tells}
 use Rattle.scan_core.specs.Row.{IsRow}
-use Rattle.scan_core.specs.inner.Kept.{AreElementsIf, AreElementsIn, IsRowWith, Says}
+use Rattle.scan_core.specs.inner.Kept.{AreElementsIf, AreElementsIn, IsRowWith, RowSays}
 use Rattle.scan_core.specs.declared.carrier.Carrier.{Carrier}
 use Rattle.scan_core.specs.declared.found.Found.{Found}
 use Rattle.scan_core.specs.declared.found.Found.TheVariants as found
@@ -39,7 +39,7 @@ same_terms a b same =
 pub kept_says : (kept now : Kept) (ws said : List ℕ) (by year : Terms) (carrier : Carrier) (values : Values)
     → IsRowWith kept.widths.list kept.is_read kept.found kept.said_by kept.said.bytes → kept.widths.list ≡ ws → now ≡ kept → now.is_read ≡ true
     → now.said_by ≡ Some by → (eqb by.year year.year && beq by.every year.every) ≡ true → now.found ≡ found.Characters carrier values
-    → said ≡ now.said.bytes → Says ws year carrier said
+    → said ≡ now.said.bytes → RowSays ws year carrier said
 kept_says kept now ws said by year carrier values row seen same read is terms shown whole =
     let runs : now.widths.list ≡ ws = ap (λ (k : Kept). k.widths.list) same ∙ seen in
     let here = subst (λ (k : Kept). IsRowWith k.widths.list k.is_read k.found k.said_by k.said.bytes) (sym same) row in

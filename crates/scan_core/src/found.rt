@@ -15,7 +15,7 @@ use crate::fault::RowFault;
 use arrayvec::ArrayString;
 use code128_code::{Values, text_of};
 use digits_core::Gtin;
-use element_core::{Elements, Form, Line, Year, elements_line, push_gtin_element};
+use element_core::{Elements, Form, Line, Year, elements_line, push_gtin_element, write_hri};
 use std::alloc::AllocError;
 
 /// What is found in a row: the symbol that it shows, or why it is refused. The row's answer is made of it.
@@ -90,13 +90,7 @@ fn put_elements(values: &Values, year: Year, said: &mut ArrayString<288>) -> boo
     ensures { result ≡ true → AreElementsOf year values.now said.new.bytes }
 {
     match &text_of(values) {
-        Ok(text) => match &Elements::parse(text.as_slice(), year) {
-            Ok(elements) => {
-                elements.write_hri(said);
-                true
-            }
-            Err(_) => false,
-        },
+        Ok(text) => write_hri(text.as_slice(), year, said).is_ok(),
         Err(_) => false,
     }
 }

@@ -4,7 +4,7 @@ ghost use Rattle.std.specs.List.{list_all};
 ghost use Rattle.scan_core.specs.Bits.{dots_at};
 ghost use Rattle.scan_core.specs.Reading.{IsFound};
 ghost use Rattle.scan_core.specs.Row.{IsRow, dots_of, inner, runs_fault};
-ghost use Rattle.scan_core.specs.inner.Kept.{Says};
+ghost use Rattle.scan_core.specs.inner.Kept.{RowSays};
 
 use crate::answer::find_into;
 use crate::carrier::Carrier;
@@ -242,7 +242,7 @@ impl Runs {
     /// The carrier of the symbol of characters that was found in the row, and the elements that it has under the
     /// reference year, in the human-readable form, if they were kept.
     pub(crate) fn said(&self, year: Year) -> Option<(Carrier, &str)>
-        ensures { IfSome result (λ said. Says self.now year said.0 said.1.now) }
+        ensures { IfSome result (λ said. RowSays self.now year said.0 said.1.now) }
     {
         let kept = &*self.kept;
         let Some(by) = kept.said_by else {

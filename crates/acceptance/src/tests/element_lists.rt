@@ -2,7 +2,7 @@
 
 use crate::tests::equal::is_equal;
 use crate::tests::rows::year_of;
-use element_core::{Element, Elements};
+use element_core::{Element, Elements, write_hri};
 use std::alloc::Global;
 use std::process::Abort;
 use std::test::Fail;
@@ -61,7 +61,11 @@ fn repeated(alloc: Global, text: &str) -> Result<String, Fail> {
 fn has_line<R: Abort>(rt: &R, elements: &Elements, wanted: &str) {
     is_equal(rt, elements.hri().as_str(), wanted);
     let mut line = elements.pairs();
-    elements.write_hri(&mut line);
+    is_equal(
+        rt,
+        write_hri(elements.bytes(), elements.year(), &mut line),
+        Ok(()),
+    );
     is_equal(rt, line.as_str(), wanted);
 }
 

@@ -35,7 +35,7 @@ abbrev pub IsRowWith : List ℕ → Bool → Found → Option Terms → List ℕ
 IsRowWith widths is_read found year said = IsRow widths × (is_read ≡ true → IsFound widths found × AreElementsIf year found said)
 
 -- the row has a symbol of this carrier, whose elements these are
-abbrev pub Says : List ℕ → Terms → Carrier → List ℕ → Type 0
-Says runs year carrier said =
+abbrev pub RowSays : List ℕ → Terms → Carrier → List ℕ → Type 0
+RowSays runs year carrier said =
     (list : List Entry) × IsAnswer runs year (answer.Read carrier (record { year = year; list = list }))
     × (said ≡ elements_text form.HumanReadable list)

@@ -6,7 +6,7 @@ use Rattle.element_core.proofs.Canonical.{elements_are}
 use Rattle.element_core.proofs.Listed.{elements_ascii}
 use Rattle.element_core.proofs.LineLength.{hri_fits}
 use Rattle.element_core.proofs.PieceLemmas.{from_left}
-use Rattle.element_core.proofs.elements.Elements.write_hri.Goals as goal
+use Rattle.element_core.proofs.elements.Elements.hri.Goals as goal
 
 pub write_line-requires-clause-ascii : goal.write_line-requires-clause-ascii
 write_line-requires-clause-ascii c =
