@@ -1,2 +1,4 @@
 -- Lemmas of this crate.
+pub mod Formats
+pub mod PutFacts
 pub mod Standing

@@ -1,10 +1,32 @@
 -- Laws of answers.
-use Rattle.std.specs.Prelude.{◌≡◌, List}
+use Rattle.std.specs.Prelude.{◌≡◌, ◌++◌, ◌∷◌, ◌<◌, IfSome, List, Option, ℕ}
+use Rattle.digits_core.specs.Refusals.{refusal_text}
+use Rattle.digits_core.specs.declared.refusal.RefusalKind.{RefusalKind}
 use Rattle.element_core.specs.Elements.{Entry}
+use Rattle.element_core.specs.Lines.{elements_text}
 use Rattle.element_core.specs.Terms.{Terms}
-use Rattle.answer_core.specs.Answers.{TellsElements}
+use Rattle.element_core.specs.declared.form.Form.{Form}
+use Rattle.message_core.specs.Messages.{IsMessageLine}
+use Rattle.answer_core.specs.Answers.{TellsElements, TellsRefusal}
+use Rattle.answer_core.specs.Formats.{format_text, word_of}
+use Rattle.answer_core.specs.Reads.{IsMessageAnswer}
 use Rattle.answer_core.specs.declared.answer.Answer.{Answer}
 
 -- an answer tells one list of elements
 abbrev pub AnswersTellOne : Type 0
 AnswersTellOne = (terms : Terms) (a : Answer) (es fs : List Entry) → TellsElements terms es a → TellsElements terms fs a → es ≡ fs
+
+-- the line of an answer has the elements that the answer tells
+abbrev pub LinesTell : Type 0
+LinesTell = (form : Form) (terms : Terms) (a : Answer) (es : List Entry) → TellsElements terms es a
+    → format_text form a ≡ word_of a ++ (32 ∷ elements_text form es)
+
+-- the line of an answer that tells an error is the error's; a place from 65535 on is not told
+abbrev pub RefusedLines : Type 0
+RefusedLines = (form : Form) (kind : RefusalKind) (place : Option ℕ) (a : Answer) → TellsRefusal kind place a → IfSome place (λ p. p < 65535)
+    → format_text form a ≡ refusal_text kind place
+
+-- the line of the answer to a text that says elements is the line of its message
+abbrev pub MessageLines : Type 0
+MessageLines = (form : Form) (terms : Terms) (text : List ℕ) (a : Answer) → IsMessageAnswer terms text a → a.fault ≡ 0
+    → IsMessageLine form terms text (format_text form a)

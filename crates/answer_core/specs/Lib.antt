@@ -1,5 +1,6 @@
 -- What programs see of an answer.
 pub mod Answers
+pub mod Formats
 pub mod Laws
 pub mod Named
 pub mod Numbers

@@ -1,5 +1,5 @@
 -- The numbers of refusals.
-use Rattle.std.specs.Prelude.{ℕ}
+use Rattle.std.specs.Prelude.{ℕ, ◌-◌, ◌∷◌, [], List, Option, None, slice_get, ◌==◌, if◌then◌else◌}
 use Rattle.digits_core.specs.declared.refusal.RefusalKind.{RefusalKind}
 use Rattle.digits_core.specs.declared.refusal.RefusalKind.TheVariants as refusal
 
@@ -49,3 +49,20 @@ refusal_number refusal.BadLane = 41
 refusal_number refusal.Words = 42
 refusal_number refusal.NoMemory = 43
 refusal_number refusal.InputSize = 44
+
+-- the refusals in the order of their numbers
+abbrev pub refusals : List RefusalKind
+refusals =
+    refusal.Length ∷ refusal.NotDigit ∷ refusal.CheckDigit ∷ refusal.Empty ∷ refusal.UnknownAi ∷
+    refusal.ValueLength ∷ refusal.ValueCharacter ∷ refusal.ValueCheckDigit ∷ refusal.ValueDate ∷
+    refusal.MissingSeparator ∷ refusal.TooLong ∷ refusal.TooManyCharacters ∷ refusal.CheckCharacter ∷
+    refusal.NotGs1 ∷ refusal.FunctionCharacter ∷ refusal.CodeSet ∷ refusal.TooWide ∷ refusal.BadRuns ∷
+    refusal.Blank ∷ refusal.RunCount ∷ refusal.QuietZone ∷ refusal.Modules ∷ refusal.Pattern ∷
+    refusal.SymbolCheckDigit ∷ refusal.BadGrid ∷ refusal.LabelKind ∷ refusal.LabelWidth ∷ refusal.NotP4 ∷
+    refusal.PbmHeader ∷ refusal.Truncated ∷ refusal.PbmSize ∷ refusal.Stranger ∷ refusal.BadCount ∷ refusal.Full ∷
+    refusal.Spent ∷ refusal.NoThread ∷ refusal.ReadFault ∷ refusal.WriteFault ∷ refusal.Csv ∷ refusal.Kind ∷
+    refusal.BadLane ∷ refusal.Words ∷ refusal.NoMemory ∷ refusal.InputSize ∷ []
+
+-- the refusal of a number, if one has it
+abbrev pub refusal_numbered : ℕ → Option RefusalKind
+refusal_numbered number = if number == 0 then None else slice_get refusals (number - 1)

@@ -1,4 +1,5 @@
 -- Definitions for the inside of the crate: types, private contracts and proofs name them, and no public contract reaches them.
 pub mod Answers
+pub mod Formats
 pub mod Numbers
 pub mod Places

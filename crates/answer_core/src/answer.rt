@@ -12,7 +12,7 @@ use digits_core::{Refusal, RefusalKind};
 use element_core::{Elements, Year};
 
 /// No place.
-const NO_PLACE: u16 = 65_535;
+pub(crate) const NO_PLACE: u16 = 65_535;
 
 /// No GTIN.
 const NO_GTIN: u8 = 255;

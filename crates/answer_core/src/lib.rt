@@ -2,6 +2,8 @@
 #![tactic(auto)]
 
 mod answer;
+mod buffer;
+mod format;
 mod gtin;
 mod laws;
 mod named;
@@ -12,7 +14,8 @@ mod row;
 mod symbol;
 
 pub use answer::Answer;
-pub use laws::answers_tell_one;
+pub use buffer::{put, put_words};
+pub use laws::{answers_tell_one, lines_tell, message_lines, refused_lines};
 pub use named::Day;
 pub use place::{MOST_ELEMENTS, Place};
 pub use row::dots_in;

@@ -4,6 +4,5 @@ mod FirstWord
 mod LinesByTerms
 mod LinesThatFit
 mod PictureFacts
-mod PutFacts
 mod TitleFacts
 mod ToldFacts

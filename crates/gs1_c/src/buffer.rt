@@ -1,38 +1,14 @@
-//! Bytes into a caller's buffer.
-ghost use Rattle.std.specs.Prelude.{◌∷◌, ◌++◌};
+//! Lines into a caller's buffer.
 ghost use Rattle.digits_core.specs.Buffers.{IsPut};
 ghost use Rattle.digits_core.specs.Refusals.{refusal_text, refusal_words};
 ghost use Rattle.element_core.specs.Lines.{line_text};
 
+use answer_core::{put, put_words};
 use digits_core::{Refusal, RefusalKind};
 use element_core::Line;
 use itoa::Buffer;
 
-/// Puts bytes at the front of `out` if it has room for them all, and says how many they are.
-pub fn put(bytes: &[u8], out: &mut [u8]) -> usize
-    ensures { IsPut bytes.now out.old out.new result }
-{
-    if bytes.len() <= out.len() {
-        out[..bytes.len()].copy_from_slice(bytes);
-    }
-    bytes.len()
-}
-
-/// The same of two words with a space between them.
-pub fn put_words(first: &[u8], second: &[u8], out: &mut [u8]) -> usize
-    ensures { IsPut (first.now ++ (32 ∷ second.now)) out.old out.new result }
-{
-    let space = first.len();
-    let count = space + 1 + second.len();
-    if count <= out.len() {
-        out[..space].copy_from_slice(first);
-        out[space] = b' ';
-        out[space + 1..count].copy_from_slice(second);
-    }
-    count
-}
-
-/// The same of a refusal that has no place.
+/// Puts a refusal that has no place at the front of `out` if it has room for it, and says how many bytes it has.
 pub fn put_refused(kind: RefusalKind, out: &mut [u8]) -> usize
     ensures { IsPut (refusal_words kind) out.old out.new result }
 {

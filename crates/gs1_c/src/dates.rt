@@ -4,7 +4,8 @@ ghost use Rattle.digits_core.specs.Buffers.{IsPut};
 ghost use Rattle.element_core.specs.Days.{IsDay};
 ghost use Rattle.gs1_c.specs.Dates.{before_equals, date_line_by, dated_line, day_text, shown_fault, shown_pair, time_text, as_two_digits};
 
-use crate::buffer::{put, put_refusal, put_words};
+use crate::buffer::put_refusal;
+use answer_core::{put, put_words};
 use element_core::{Element, ElementFault, Elements, Pair, Text, Year};
 use jiff::civil::Date;
 

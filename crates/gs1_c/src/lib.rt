@@ -40,7 +40,8 @@ mod titles;
 mod value;
 
 use answer::{find_packed, put_found};
-use buffer::{put, put_line, put_refusal, put_refused};
+use answer_core::put;
+use buffer::{put_line, put_refusal, put_refused};
 use dates::put_date;
 use digits_core::RefusalKind;
 use element_core::{Form, digit_line, elements_line, gtin_line};

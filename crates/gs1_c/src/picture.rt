@@ -5,8 +5,9 @@ ghost use Rattle.picture_core.specs.Pictures.{IsPicture};
 ghost use Rattle.gs1_c.specs.Found.{ArePut};
 ghost use Rattle.gs1_c.specs.Pictures.{AreReadLinesPut, AreShownPut, IsPictureFault, dropped_line, given_level, numbers_text, placed_line, placed_line_in, placed_numbers, reason_text};
 
-use crate::buffer::{put, put_refusal};
+use crate::buffer::put_refusal;
 use crate::line::{push, push_number, put_fitting};
+use answer_core::put;
 use arrayvec::ArrayVec;
 use itoa::Buffer;
 use picture_core::{Picture, Reading, Refused, Room, SeenSymbol, Shown, read_picture};

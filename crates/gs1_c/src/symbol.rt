@@ -8,9 +8,10 @@ ghost use Rattle.sheet_core.specs.Labels.{Drawn, IsDrawn};
 ghost use Rattle.gs1_c.specs.Labels.{IsKindSaid};
 ghost use Rattle.gs1_c.specs.Symbols.{IsSymbolLineOf, IsUnderBars, IsUpceUnder, drawn_text};
 
-use crate::buffer::{put, put_refusal};
+use crate::buffer::put_refusal;
 use crate::label::label_of;
 use crate::line::{push, push_number};
+use answer_core::put;
 use arrayvec::ArrayVec;
 use digits_core::{Gtin, upce_suppress};
 use element_core::Year;

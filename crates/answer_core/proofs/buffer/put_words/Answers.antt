@@ -1,6 +1,6 @@
 use Rattle.std.proofs.Common.{◌∷◌, arith, length-append}
-use Rattle.gs1_c.proofs.PutFacts.{two_words}
-use Rattle.gs1_c.proofs.buffer.put_words.Goals as goal
+use Rattle.answer_core.proofs.PutFacts.{two_words}
+use Rattle.answer_core.proofs.buffer.put_words.Goals as goal
 
 pub returns-then-count-out : goal.returns-then-count-out
 returns-then-count-out c =
