@@ -33,6 +33,7 @@ uint32_t gs1_c_read_elements(const uint8_t *text, size_t length, uint16_t year, 
 uint32_t gs1_c_read_gtin(const uint8_t *digits, size_t length, uint16_t year, struct gs1_answer *answer);
 uint32_t gs1_c_read_row(const uint16_t *widths, size_t count, uint16_t year, struct gs1_answer *answer);
 uint32_t gs1_c_read_dots(const uint8_t *bits, size_t bytes, uint32_t count, uint16_t year, struct gs1_answer *answer);
+size_t gs1_c_format(const struct gs1_answer *answer, uint32_t form, uint8_t *out, size_t room);
 
 /* No items, aligned for each type. Nothing is read or written there, since the count is 0. */
 static const uint64_t none;
@@ -165,4 +166,11 @@ int gs1_read_row(const uint16_t *widths, size_t count, uint16_t year, struct gs1
 
 int gs1_read_dots(const uint8_t *bits, uint32_t count, uint16_t year, struct gs1_answer *answer) {
     return (int)gs1_c_read_dots(READ(uint8_t, bits, bytes_of(count)), count, year, INTO(answer));
+}
+
+/* What stands for a null pointer: the answer to no text, `refused 40 Kind`. */
+static const struct gs1_answer no_answer = {.fault = GS1_FAULT_KIND, .place = GS1_NO_PLACE};
+
+size_t gs1_format(const struct gs1_answer *answer, enum gs1_form form, uint8_t *out, size_t room) {
+    return gs1_c_format(answer ? answer : &no_answer, (uint32_t)form, OUT);
 }

@@ -240,6 +240,14 @@ int gs1_read_row(const uint16_t *widths, size_t count, uint16_t year, struct gs1
 /* What a row of packed dots says, given as for gs1_dots. */
 int gs1_read_dots(const uint8_t *bits, uint32_t count, uint16_t year, struct gs1_answer *answer);
 
+/* The forms of a line: `]C1 10=AB<TAB>17=261231`, and `]C1 (10)AB(17)261231`. */
+enum gs1_form { GS1_AS_DATA = 0, GS1_AS_HRI = 1 };
+
+/* The line of an answer: its identifier, or `-` without one, and its elements; or its error. It has at most GS1_LINE bytes if a call of this
+ * part filled the answer. You may change the answer or fill it yourself: any bytes give a line, in which a place that is no span of the text
+ * is empty. If `form` is none of these, the line is `refused 40 Kind`. */
+size_t gs1_format(const struct gs1_answer *answer, enum gs1_form form, uint8_t *out, size_t room);
+
 #ifdef __cplusplus
 }
 #endif

@@ -81,11 +81,27 @@ static void compare_dates(const struct gs1_answer *answer, uint16_t year) {
     }
 }
 
+/* The line of an answer beside the line of the call before, whose word is another if the text of the answer has no identifier. */
+static void compare_format(const struct gs1_answer *answer, const char *word, const uint8_t *line, size_t count) {
+    uint8_t text[GS1_LINE];
+    struct line got = {.count = 0};
+    size_t length = gs1_format(answer, GS1_AS_DATA, text, sizeof text);
+    same_number("line without room", (unsigned long)gs1_format(answer, GS1_AS_DATA, text, 0), length);
+    if (word && !answer->fault) {
+        put_text(&got, word);
+        put(&got, text + 1, length - 1);
+    } else {
+        put(&got, text, length);
+    }
+    same("line", &got, line, count);
+}
+
 /* An answer beside the line of the call before. */
 static void compare(const char *what, int fault, const struct gs1_answer *answer, const char *word, const uint8_t *line, size_t count,
                     uint16_t year) {
     same_number(what, (unsigned long)fault, (unsigned long)gs1_status(line, count));
     same_number(what, answer->fault, (unsigned long)fault);
+    compare_format(answer, word, line, count);
     if (fault) {
         same_number("place", answer->place, place_of(line, count));
         same_number("count", answer->count, 0);
@@ -156,6 +172,30 @@ static size_t bytes_of(const char *line, uint8_t *out) {
     return count;
 }
 
+/* A million structs of any bytes, and rooms of 0 to 4,096: nothing is read outside of the struct, nothing is written beyond the room. */
+static void format_any(unsigned long times) {
+    static uint8_t out[4097];
+    uint64_t seed = 1;
+    for (unsigned long i = 0; i < times; i++) {
+        struct gs1_answer answer;
+        uint8_t *bytes = (uint8_t *)&answer;
+        for (size_t k = 0; k < sizeof answer; k++) {
+            seed = seed * 6364136223846793005u + 1442695040888963407u;
+            bytes[k] = (uint8_t)(seed >> 56);
+        }
+        if (i & 1) answer.fault = 0;
+        if (i & 2) answer.count %= 49;
+        enum gs1_form form = (enum gs1_form)(i % 3);
+        size_t room = (size_t)(seed >> 40) % 4097;
+        out[room] = 0x5c;
+        out[0] = room ? 0x5c : out[0];
+        size_t count = gs1_format(&answer, form, out, room);
+        same_number("beyond the room", out[room], 0x5c);
+        if (count > room && room) same_number("line that does not fit", out[0], 0x5c);
+        same_number("size", (unsigned long)gs1_format(&answer, form, NULL, 9), (unsigned long)count);
+    }
+}
+
 int main(int count, char **words) {
     static char line[400000];
     static uint8_t text[400000];
@@ -176,6 +216,8 @@ int main(int count, char **words) {
     same_number("no text", (unsigned long)gs1_read_message(NULL, 3, 2026, NULL), GS1_FAULT_KIND);
     same_number("no row", (unsigned long)gs1_read_row(NULL, 3, 2026, &answer), GS1_FAULT_BAD_RUNS);
     same_number("no dots", (unsigned long)gs1_read_dots(NULL, 9, 2026, &answer), GS1_FAULT_BAD_RUNS);
+    same_number("no answer", (unsigned long)gs1_format(NULL, GS1_AS_DATA, NULL, 0), strlen("refused 40 Kind"));
+    if (!rows) format_any(1000000);
     printf("%lu answers as values, %lu differ\n", asked, wrong);
     return wrong ? 1 : 0;
 }

@@ -1,14 +1,19 @@
-//! The calls that fill an answer of the caller's (`struct gs1_answer` of gs1.h). Each returns the number of the error, or 0.
+//! The calls that fill an answer of the caller's (`struct gs1_answer` of gs1.h), and the one that writes its line. Each of the
+//! first returns the number of the error, or 0.
 //!
 //! A year that is no reference year is error 42 (`Words`). What stands behind the text and the elements of an answer is not
 //! written.
 ghost use Rattle.std.specs.Prelude.{◌≡◌};
 ghost use Rattle.answer_core.specs.Reads.{IsGtinAnswer, IsMessageAnswer, IsStringAnswer};
 ghost use Rattle.answer_core.specs.Rows.{IsDotsAnswer, IsWidthsAnswer};
-ghost use Rattle.gs1_c.specs.Values.{IsAnsweredBy};
+ghost use Rattle.digits_core.specs.Buffers.{IsPut};
+ghost use Rattle.gs1_c.specs.Values.{IsAnsweredBy, form_numbered, line_by};
 
+use crate::buffer::put_refused;
 use crate::terms::terms_of;
 use answer_core::Answer;
+use digits_core::RefusalKind;
+use element_core::Form;
 
 /// What a text of a scanner says, as `gs1_c_scan` reads it. The symbol of a scanner's `]E0` is a guess: a scanner may send a
 /// UPC-E as the 12 digits of a UPC-A.
@@ -74,4 +79,27 @@ pub extern "C" fn gs1_c_read_dots(bits: &[u8], count: u32, year: u16, answer: &m
         None => answer.refuse_terms(),
     }
     u32::from(answer.fault)
+}
+
+/// The form of a number: 0, the elements as data; 1, as people read them.
+fn form_numbered(number: u32) -> Option<Form>
+    ensures { result ≡ form_numbered number }
+{
+    match number {
+        0 => Some(Form::Pairs),
+        1 => Some(Form::HumanReadable),
+        _ => None,
+    }
+}
+
+/// The line of an answer: its identifier, or `-`, and its elements in a form; or its error. It takes any bytes as an answer. A
+/// number that is no form is error 40 (`Kind`).
+#[unsafe(no_mangle)]
+pub extern "C" fn gs1_c_format(answer: &Answer, form: u32, out: &mut [u8]) -> usize
+    ensures { IsPut (line_by (form_numbered form) answer.now) out.old out.new result }
+{
+    match form_numbered(form) {
+        Some(form) => answer.put_line(form, out),
+        None => put_refused(RefusalKind::Kind, out),
+    }
 }
