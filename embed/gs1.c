@@ -33,6 +33,7 @@ uint32_t gs1_c_read_elements(const uint8_t *text, size_t length, uint16_t year, 
 uint32_t gs1_c_read_gtin(const uint8_t *digits, size_t length, uint16_t year, struct gs1_answer *answer);
 uint32_t gs1_c_read_row(const uint16_t *widths, size_t count, uint16_t year, struct gs1_answer *answer);
 uint32_t gs1_c_read_dots(const uint8_t *bits, size_t bytes, uint32_t count, uint16_t year, struct gs1_answer *answer);
+uint32_t gs1_c_read_data(const uint8_t *line, size_t length, uint16_t year, struct gs1_answer *answer);
 size_t gs1_c_format(const struct gs1_answer *answer, uint32_t form, uint8_t *out, size_t room);
 
 /* No items, aligned for each type. Nothing is read or written there, since the count is 0. */
@@ -166,6 +167,10 @@ int gs1_read_row(const uint16_t *widths, size_t count, uint16_t year, struct gs1
 
 int gs1_read_dots(const uint8_t *bits, uint32_t count, uint16_t year, struct gs1_answer *answer) {
     return (int)gs1_c_read_dots(READ(uint8_t, bits, bytes_of(count)), count, year, INTO(answer));
+}
+
+int gs1_read_data(const uint8_t *line, size_t length, uint16_t year, struct gs1_answer *answer) {
+    return (int)gs1_c_read_data(READ(uint8_t, line, length), year, INTO(answer));
 }
 
 /* What stands for a null pointer: the answer to no text, `refused 40 Kind`. */

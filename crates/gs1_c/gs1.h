@@ -240,6 +240,11 @@ int gs1_read_row(const uint16_t *widths, size_t count, uint16_t year, struct gs1
 /* What a row of packed dots says, given as for gs1_dots. */
 int gs1_read_dots(const uint8_t *bits, uint32_t count, uint16_t year, struct gs1_answer *answer);
 
+/* The answer whose line this is, with the elements as data: a line of gs1_scan, gs1_row_elements, gs1_dots_elements or gs1_format, and one of
+ * `live --elements` behind its lane and number. A line of an error gives that error. Of `]E0` the symbol is a guess. Any other text is
+ * GS1_FAULT_KIND, without a place; and so is a line whose elements the year's terms do not allow. */
+int gs1_read_data(const uint8_t *line, size_t length, uint16_t year, struct gs1_answer *answer);
+
 /* The forms of a line: `]C1 10=AB<TAB>17=261231`, and `]C1 (10)AB(17)261231`. */
 enum gs1_form { GS1_AS_DATA = 0, GS1_AS_HRI = 1 };
 

@@ -82,7 +82,7 @@ static void compare_dates(const struct gs1_answer *answer, uint16_t year) {
 }
 
 /* The line of an answer beside the line of the call before, whose word is another if the text of the answer has no identifier. */
-static void compare_format(const struct gs1_answer *answer, const char *word, const uint8_t *line, size_t count) {
+static void compare_format(const struct gs1_answer *answer, const char *word, const uint8_t *line, size_t count, uint16_t year) {
     uint8_t text[GS1_LINE];
     struct line got = {.count = 0};
     size_t length = gs1_format(answer, GS1_AS_DATA, text, sizeof text);
@@ -94,6 +94,25 @@ static void compare_format(const struct gs1_answer *answer, const char *word, co
         put(&got, text, length);
     }
     same("line", &got, line, count);
+
+    /* Its line is read back, except that of an error behind 65,534. */
+    struct gs1_answer again;
+    memset(&again, 0x77, sizeof again);
+    same_number("error read back", (unsigned long)gs1_read_data(text, length, year, &again), answer->fault);
+    same_number("place read back", again.place, answer->place);
+    same_number("count read back", again.count, answer->count);
+    same_number("length read back", again.length, answer->length);
+    same_number("GTIN read back", again.gtin, answer->gtin);
+    same_number("elements read back", (unsigned long)memcmp(again.element, answer->element, answer->count * sizeof *answer->element), 0);
+    same_number("text read back", (unsigned long)memcmp(again.text, answer->text, answer->length), 0);
+    if (!answer->fault) same_number("identifier read back", (unsigned long)memcmp(again.identifier, answer->identifier, 4), 0);
+    if (length > 9) text[length / 2] = (uint8_t)(text[length / 2] ^ 1);
+    if (!gs1_read_data(text, length, year, &again) || again.fault != GS1_FAULT_KIND) {
+        uint8_t other[GS1_LINE];
+        struct line damaged = {.count = 0};
+        put(&damaged, other, gs1_format(&again, GS1_AS_DATA, other, sizeof other));
+        same("damaged line", &damaged, text, length);
+    }
 }
 
 /* An answer beside the line of the call before. */
@@ -101,7 +120,7 @@ static void compare(const char *what, int fault, const struct gs1_answer *answer
                     uint16_t year) {
     same_number(what, (unsigned long)fault, (unsigned long)gs1_status(line, count));
     same_number(what, answer->fault, (unsigned long)fault);
-    compare_format(answer, word, line, count);
+    if ((year & 0x7fff) >= 1951) compare_format(answer, word, line, count, year);
     if (fault) {
         same_number("place", answer->place, place_of(line, count));
         same_number("count", answer->count, 0);

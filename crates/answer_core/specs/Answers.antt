@@ -34,6 +34,13 @@ pub record TellsRefusal (kind : RefusalKind) (place : Option ℕ) (a : Answer) :
   pub length_is : a.length ≡ 0
   pub gtin_is : a.gtin ≡ 255
 
+-- an error, and no element
+pub record IsError (a : Answer) : Type 0 where
+  pub some : a.fault ≡ 0 → ⊥
+  pub count_is : a.count ≡ 0
+  pub length_is : a.length ≡ 0
+  pub gtin_is : a.gtin ≡ 255
+
 -- this symbol and its identifier
 pub record IsNamed (symbol : SymbolKind) (identifier : List ℕ) (a : Answer) : Type 0 where
   pub symbol_is : a.symbol ≡ symbol_number symbol

@@ -14,7 +14,10 @@ use Rattle.element_core.specs.declared.fault.ElementFault.{ElementFault}
 use Rattle.message_core.specs.Faults.{message_fault_text}
 use Rattle.message_core.specs.Messages.{IsMessage, Outcome}
 use Rattle.message_core.specs.declared.head.Head.{Head}
-use Rattle.answer_core.specs.Answers.{IsNamed, TellsElements, TellsRefusal}
+use Rattle.digits_core.specs.declared.refusal.RefusalKind.TheVariants as refusal
+use Rattle.element_core.specs.declared.form.Form.TheVariants as form
+use Rattle.answer_core.specs.Answers.{IsError, IsNamed, TellsElements, TellsNothing, TellsRefusal}
+use Rattle.answer_core.specs.Formats.{format_text}
 use Rattle.answer_core.specs.Symbols.{sent_identifier, sent_symbol}
 use Rattle.answer_core.specs.declared.answer.Answer.{Answer}
 use Rattle.answer_core.specs.declared.symbol.SymbolKind.TheVariants.{Unknown}
@@ -56,3 +59,13 @@ IsGtinBy terms digits (Some fault) a = TellsLine (digit_fault_text fault) a
 
 abbrev pub IsGtinAnswer : Terms → List ℕ → Answer → Type 0
 IsGtinAnswer terms digits a = IsGtinBy terms digits (gtin_fault digits) a × IsUnnamed a
+
+-- ---- lines of answers
+
+-- an answer by these terms: it tells elements, or an error
+abbrev pub IsAnswerBy : Terms → Answer → Type 0
+IsAnswerBy terms a = ((es : List Entry) × TellsElements terms es a) ⊎ IsError a
+
+-- the answer whose line this is, with the elements as data; or that the text is no such line
+abbrev pub IsDataAnswer : Terms → List ℕ → Answer → Type 0
+IsDataAnswer terms line a = (IsAnswerBy terms a × (format_text form.Pairs a ≡ line)) ⊎ TellsNothing refusal.Kind a

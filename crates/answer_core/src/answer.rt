@@ -15,7 +15,7 @@ use element_core::{Elements, Year};
 pub(crate) const NO_PLACE: u16 = 65_535;
 
 /// No GTIN.
-const NO_GTIN: u8 = 255;
+pub(crate) const NO_GTIN: u8 = 255;
 
 /// What a barcode says, or why it says nothing. Of the text `length` bytes are written, and of the elements `count`;
 /// those behind them are not.

@@ -3,6 +3,7 @@
 
 mod answer;
 mod buffer;
+mod data;
 mod format;
 mod gtin;
 mod laws;

@@ -40,7 +40,7 @@ impl Answer {
         match said {
             RowAnswer::Read { carrier, elements } => {
                 let symbol = carrier_symbol(*carrier, elements.bytes());
-                self.name(symbol, as_four(carrier.identifier()));
+                self.name(symbol, as_four(carrier.identifier().as_bytes()));
                 self.tell(elements, terms);
             }
             RowAnswer::Refused(fault) => {

@@ -87,10 +87,10 @@ pub(crate) fn sent_symbol(head: Option<Head>, text: &[u8]) -> SymbolKind
 }
 
 /// An identifier of three bytes, and a 0 behind it; four zeros for any other.
-pub(crate) fn as_four(identifier: &str) -> [u8; 4]
+pub(crate) fn as_four(identifier: &[u8]) -> [u8; 4]
     ensures { result ≡ as_four identifier.now }
 {
-    match identifier.as_bytes() {
+    match identifier {
         [a, b, c] => [*a, *b, *c, 0],
         _ => [0; 4],
     }
@@ -101,7 +101,16 @@ pub(crate) fn sent_identifier(head: Option<Head>) -> [u8; 4]
     ensures { result ≡ sent_identifier head }
 {
     match head {
-        Some(Head::Symbology(symbology)) => as_four(symbology.identifier()),
+        Some(Head::Symbology(symbology)) => as_four(symbology.identifier().as_bytes()),
         _ => [0; 4],
+    }
+}
+
+/// The symbol of an identifier and an element string. Of `]E0` it is a guess: an EAN-13, or a UPC-A if the GTIN has 12 digits.
+pub(crate) fn identified_symbol(identifier: [u8; 4], text: &[u8]) -> SymbolKind {
+    match Symbology::named(&identifier[..3]) {
+        None => SymbolKind::Unknown,
+        Some(Symbology::EanUpc) => carrier_symbol(Carrier::Ean13, text),
+        Some(symbology) => sent_symbol(Some(Head::Symbology(symbology)), text),
     }
 }

@@ -1,5 +1,5 @@
 -- Answers by the terms that a number says, and their lines.
-use Rattle.std.specs.Prelude.{List, None, Option, Some, ℕ}
+use Rattle.std.specs.Prelude.{◌==◌, List, None, Option, Some, if◌then◌else◌, ℕ}
 use Rattle.digits_core.specs.Refusals.{refusal_words}
 use Rattle.digits_core.specs.declared.refusal.RefusalKind.TheVariants as refusal
 use Rattle.element_core.specs.Terms.{Terms}
@@ -16,9 +16,7 @@ IsAnsweredBy number Is a = Under (terms_of number) (TellsNothing refusal.Words a
 
 -- the form of a number: 0, data; 1, as people read it
 abbrev pub form_numbered : ℕ → Option Form
-form_numbered 0 = Some form.Pairs
-form_numbered 1 = Some form.HumanReadable
-form_numbered _ = None
+form_numbered n = if n == 0 then Some form.Pairs else if n == 1 then Some form.HumanReadable else None
 
 -- the line of an answer in a form; without one, that there is no such kind
 abbrev pub line_by : Option Form → Answer → List ℕ

@@ -4,7 +4,7 @@
 //! A year that is no reference year is error 42 (`Words`). What stands behind the text and the elements of an answer is not
 //! written.
 ghost use Rattle.std.specs.Prelude.{◌≡◌};
-ghost use Rattle.answer_core.specs.Reads.{IsGtinAnswer, IsMessageAnswer, IsStringAnswer};
+ghost use Rattle.answer_core.specs.Reads.{IsDataAnswer, IsGtinAnswer, IsMessageAnswer, IsStringAnswer};
 ghost use Rattle.answer_core.specs.Rows.{IsDotsAnswer, IsWidthsAnswer};
 ghost use Rattle.digits_core.specs.Buffers.{IsPut};
 ghost use Rattle.gs1_c.specs.Values.{IsAnsweredBy, form_numbered, line_by};
@@ -76,6 +76,19 @@ pub extern "C" fn gs1_c_read_dots(bits: &[u8], count: u32, year: u16, answer: &m
 {
     match terms_of(year) {
         Some(terms) => answer.read_dots(bits, count, terms),
+        None => answer.refuse_terms(),
+    }
+    u32::from(answer.fault)
+}
+
+/// The answer whose line this is, with the elements as data, as `gs1_c_format` writes it. Any other text is error 40 (`Kind`).
+#[unsafe(no_mangle)]
+pub extern "C" fn gs1_c_read_data(line: &[u8], year: u16, answer: &mut Answer) -> u32
+    ensures told { IsAnsweredBy year (λ terms a. IsDataAnswer terms line.now a) answer.new }
+    ensures fault { result ≡ answer.new.fault }
+{
+    match terms_of(year) {
+        Some(terms) => answer.read_data(line, terms),
         None => answer.refuse_terms(),
     }
     u32::from(answer.fault)

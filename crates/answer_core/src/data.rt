@@ -1,0 +1,188 @@
+//! Lines of answers, read back.
+ghost use Rattle.std.specs.Prelude.{◌≡◌, ◌≤◌, ◌+◌, IfSome, length, true};
+ghost use Rattle.digits_core.specs.declared.refusal.RefusalKind.TheVariants as refusal;
+ghost use Rattle.element_core.specs.declared.form.Form.TheVariants as form;
+ghost use Rattle.answer_core.specs.Formats.{format_text};
+ghost use Rattle.answer_core.specs.Answers.{IsError, TellsNothing};
+ghost use Rattle.answer_core.specs.Reads.{IsAnswerBy, IsDataAnswer};
+
+use crate::answer::{Answer, NO_GTIN, NO_PLACE};
+use crate::place::MOST_ELEMENTS;
+use crate::symbol::{SymbolKind, as_four, identified_symbol};
+use digits_core::{Refusal, RefusalKind};
+use element_core::{Elements, Form, Pair, Text, Year};
+use std::array;
+
+/// The most bytes of a line that an answer has which a call fills.
+const MOST_LINE: usize = 292;
+
+/// The index of the first such byte, or the number of bytes.
+fn index_of(byte: u8, bytes: &[u8]) -> usize
+    ensures { result ≤ length bytes.now }
+{
+    for (i, b) in bytes.iter().enumerate() {
+        if *b == byte {
+            return i;
+        }
+    }
+    bytes.len()
+}
+
+/// What stands before the first such byte and what stands behind it, if there is one.
+fn cut(byte: u8, bytes: &[u8]) -> Option<(&[u8], &[u8])>
+    ensures { IfSome result (λ r. length r.0.now + length r.1.now + 1 ≡ length bytes.now) }
+{
+    let index = index_of(byte, bytes);
+    if index == bytes.len() {
+        return None;
+    }
+    Some((&bytes[..index], &bytes[index + 1..]))
+}
+
+/// The number of these digits, if it is below 65,535.
+fn number_of(digits: &[u8]) -> Option<u16> {
+    let mut number: u32 = 0;
+    for digit in digits {
+        if !digit.is_ascii_digit() || number >= u32::from(NO_PLACE) {
+            return None;
+        }
+        number = number * 10 + u32::from(*digit - b'0');
+    }
+    if number < u32::from(NO_PLACE) {
+        Some(number as u16)
+    } else {
+        None
+    }
+}
+
+/// The number and the place of the error that a line reports behind `refused `: a number, a name and, if it has one, a place.
+fn error_of(words: &[u8]) -> Option<(u16, u16)> {
+    let (number, name) = cut(b' ', words)?;
+    let place = match cut(b' ', name) {
+        Some((_, place)) => number_of(place)?,
+        None => NO_PLACE,
+    };
+    Some((number_of(number)?, place))
+}
+
+/// A text of these bytes, if they are not too many.
+fn text_of(bytes: &[u8]) -> Option<Text> {
+    let mut text = Text::new();
+    match text.try_extend_from_slice(bytes) {
+        Ok(()) => Some(text),
+        Err(_) => None,
+    }
+}
+
+/// The pair of a field: what stands before its first `=`, and what stands behind it.
+fn pair_of(field: &[u8]) -> Option<Pair> {
+    let (ai, value) = cut(b'=', field)?;
+    Some(Pair {
+        ai: text_of(ai)?,
+        value: text_of(value)?,
+    })
+}
+
+/// Pairs, at most as many as an answer has elements.
+#[derive(Drop)]
+struct Pairs {
+    items: [Pair; MOST_ELEMENTS],
+    count: usize,
+}
+
+/// The pairs of fields between tabs, if they are pairs and not too many.
+fn pairs_of(fields: &[u8]) -> Option<Pairs>
+    ensures { IfSome result (λ pairs. pairs.count ≤ 48) }
+{
+    let mut items = array::from_fn(|_| Pair {
+        ai: Text::new(),
+        value: Text::new(),
+    });
+    let mut count = 0;
+    let mut rest = fields;
+    while let Some((field, more)) = cut(b'\t', rest) {
+        if count >= MOST_ELEMENTS - 1 {
+            return None;
+        }
+        items[count] = pair_of(field)?;
+        count += 1;
+        rest = more;
+    }
+    items[count] = pair_of(rest)?;
+    Some(Pairs {
+        items,
+        count: count + 1,
+    })
+}
+
+impl Answer {
+    /// Writes that a line is none of an answer.
+    fn refuse_line(&mut self)
+        ensures { TellsNothing refusal.Kind self.new }
+    {
+        self.name(SymbolKind::Unknown, [0; 4]);
+        self.refuse(Refusal {
+            kind: RefusalKind::Kind,
+            place: None,
+        });
+    }
+
+    /// Writes an error.
+    fn tell_error(&mut self, fault: u16, place: u16)
+        requires { fault ≡ 0 → ⊥ }
+        ensures { IsError self.new }
+    {
+        self.name(SymbolKind::Unknown, [0; 4]);
+        self.fault = fault;
+        self.place = place;
+        self.count = 0;
+        self.length = 0;
+        self.gtin = NO_GTIN;
+    }
+
+    /// Writes what a line seems to say: its error, or its identifier and its elements.
+    fn read_parts(&mut self, line: &[u8], terms: Year)
+        ensures { IsAnswerBy terms self.new }
+    {
+        let Some((word, said)) = cut(b' ', line) else {
+            return self.refuse_line();
+        };
+        if word == b"refused".as_slice() {
+            return match error_of(said) {
+                None | Some((0, _)) => self.refuse_line(),
+                Some((fault, place)) => self.tell_error(fault, place),
+            };
+        }
+        let Some(pairs) = pairs_of(said) else {
+            return self.refuse_line();
+        };
+        match &Elements::of_pairs(&pairs.items[..pairs.count], terms) {
+            Ok(elements) => {
+                let identifier = as_four(word);
+                self.name(identified_symbol(identifier, elements.bytes()), identifier);
+                self.tell(elements, terms);
+            }
+            Err(_) => self.refuse_line(),
+        }
+    }
+
+    /// Whether this is the line of this answer, with the elements as data.
+    fn has_data(&self, line: &[u8]) -> bool
+        ensures { result ≡ true → format_text form.Pairs self.now ≡ line.now }
+    {
+        let mut out = [0; MOST_LINE];
+        let count = self.put_line(Form::Pairs, &mut out);
+        count <= MOST_LINE && &out[..count] == line
+    }
+
+    /// The answer whose line this is, with the elements as data (`gs1_format`, and `live --elements` behind its lane and number):
+    /// its elements, or its error. Any other text is error 40 (`Kind`).
+    pub fn read_data(&mut self, line: &[u8], terms: Year)
+        ensures { IsDataAnswer terms line.now self.new }
+    {
+        self.read_parts(line, terms);
+        if !self.has_data(line) {
+            self.refuse_line();
+        }
+    }
+}
