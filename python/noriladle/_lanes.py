@@ -8,17 +8,12 @@ from functools import partial
 from typing import Dict, Tuple
 
 from ._health import Metrics
-from ._redis import FAULTS
-from .streams import Shop, Till, rows, status
+from ._redis import FAULTS, TooMuch
+from .streams import SHARDS, Shop, Till, lanes_at, rows, tag
 
 _PATIENCE = 5
-"""A worker is ready if no row of its own waits for more seconds."""
+"""A worker is ready if each node gives an answer to a row of its own within these seconds."""
 _ROW, _ANSWER = "]E09501101530003", "]E0 (01)09501101530003"
-_NUMBERS = {
-    "noriladle_oldest_seconds": "For how long the oldest row without an answer has waited, by lane.",
-    "noriladle_entries": "Entries of rows without an answer, by lane.",
-    "noriladle_pending": "Entries of rows that a worker has read and not answered, by lane.",
-}
 
 
 class Watch:
@@ -26,67 +21,56 @@ class Watch:
 
     def __init__(self, shop: Shop, metrics: Metrics) -> None:
         self._shop, self._lost = shop, 0
-        self._status: Dict[str, Tuple[float, int, int]] = {}
-        self._probes: Dict[Tuple[str, str], asyncio.Future[None]] = {}
-        """By the address of a node and a lane on it."""
-        self._began: Dict[str, float] = {}
-        self._took: Dict[str, float] = {}
-        """By node, when the row was submitted that has no answer yet, and how long the last one took."""
-        for place, (name, about) in enumerate(_NUMBERS.items()):
-            metrics.gauge(name, about, partial(self._numbers, place), "lane")
-        metrics.gauge("noriladle_round_trip_seconds", "How long a row of the worker's own took or waits, by node.",
-                      self._trips, "node")
+        self._lanes: Dict[str, Tuple[float, int, int]] = {}
+        self._trips: Dict[str, float] = {}
+        """By node, how long a row of the worker's own took."""
+        for place, (name, about) in enumerate((
+            ("oldest_seconds", "For how long the oldest row without an answer has waited, by lane."),
+            ("entries", "Entries of rows without an answer, by lane."),
+            ("pending", "Entries of rows that a worker has read and not answered, by lane."),
+        )):
+            metrics.gauge(f"noriladle_{name}", about, partial(self._numbers, place), "lane")
+        metrics.gauge("noriladle_round_trip_seconds", "How long a row of the worker's own took, by node; +Inf if it had no answer.",
+                      lambda: self._trips, "node")
         metrics.count_of("noriladle_rows_lost_total", "Rows of the worker's own that Redis has lost.", lambda: self._lost)
 
     def _numbers(self, place: int) -> Dict[str, float]:
-        return {lane: numbers[place] for lane, numbers in self._status.items()}
+        return {lane: its[place] for lane, its in self._lanes.items()}
 
     async def keep(self) -> None:
-        """Looks every two seconds, until it is cancelled."""
-        try:
-            while True:
-                found: Dict[str, Tuple[float, int, int]] = {}
-                with contextlib.suppress(*FAULTS):
-                    await self._look_for_nodes()
-                    for node in await self._shop.masters():
-                        with contextlib.suppress(*FAULTS):
-                            found.update(await status(node))
-                self._status = found
-                await asyncio.sleep(2)
-        finally:
-            for probe in self._probes.values():
-                probe.cancel()
+        """Looks each second, until it is cancelled."""
+        while True:
+            with contextlib.suppress(*FAULTS):
+                probes = {await self._shop.address(rows(it)): it for it in (f"probe.{n}" for n in range(64))}
+                self._trips = dict(zip(probes, await asyncio.gather(*map(self._trip, probes.values()))))
+            told = await asyncio.gather(*map(self._look, range(SHARDS)), return_exceptions=True)
+            self._lanes = {lane: its for of in told if isinstance(of, dict) for lane, its in of.items()}
+            await asyncio.sleep(1)
 
     async def trip(self) -> str:
         """Why no row goes through, or nothing."""
-        slow = [f"no answer through {node} for {seconds:.0f} seconds"
-                for node, seconds in self._trips().items() if seconds > _PATIENCE]
-        return "; ".join(slow) or ("" if self._took else "no row has gone through Redis yet")
+        slow = [f"no answer through {node} for {_PATIENCE} seconds" for node, took in self._trips.items() if took > _PATIENCE]
+        return "; ".join(slow) or ("" if self._trips else "no row has gone through Redis yet")
 
-    def _trips(self) -> Dict[str, float]:
-        waits = {node: time.monotonic() - since for node, since in self._began.items()}
-        return {node: max(self._took.get(node, 0), waits.get(node, 0)) for node in {*self._took, *waits}}
+    async def _trip(self, lane: str) -> float:
+        """How long a row takes through a lane."""
+        till, begin = Till(self._shop, lane, patience=_PATIENCE), time.monotonic()
+        with contextlib.suppress(*FAULTS, LookupError):
+            is_right = await till.read(_ROW) == _ANSWER
+            self._lost += till.lost
+            return time.monotonic() - begin if is_right else float("inf")
+        return float("inf")
 
-    async def _look_for_nodes(self) -> None:
-        """Sends rows through a lane of each node that has lanes now."""
-        lanes = {(await self._shop.node(rows(it))).address: it for it in (f"probe.{n}" for n in range(64))}
-        for gone in self._probes.keys() - lanes.items():
-            self._probes.pop(gone).cancel()
-            self._began.pop(gone[0], None)
-            self._took.pop(gone[0], None)
-        for new in lanes.items() - self._probes.keys():
-            self._probes[new] = asyncio.ensure_future(self._probe(*new))
-
-    async def _probe(self, node: str, lane: str) -> None:
-        """Sends a row through a node each second."""
-        self._began[node] = time.monotonic()
-        while True:
-            till = Till(self._shop, lane)
-            with contextlib.suppress(*FAULTS, LookupError):
-                while await till.read(_ROW) == _ANSWER:
-                    self._took[node] = time.monotonic() - self._began.pop(node)
-                    self._lost += till.lost
-                    till.lost = 0
-                    await asyncio.sleep(1)
-                    self._began[node] = time.monotonic()
-            await asyncio.sleep(1)
+    async def _look(self, shard: int) -> Dict[str, Tuple[float, int, int]]:
+        """What Redis has of each lane of a shard: for how many seconds its oldest row without an answer has waited (0 if
+        there is none), the entries of rows without an answer, and how many of these a worker has read."""
+        lanes, found = await lanes_at(self._shop, shard), {}
+        (seconds, micro), *told = await self._shop.ask_all(
+            tag(shard), [["TIME"], *(words for it in lanes for words in (["XLEN", it], ["XINFO", "GROUPS", it]))])
+        for lane, entries, groups in zip(lanes, told[::2], told[1::2]):
+            oldest = 0.0
+            with contextlib.suppress(TooMuch):
+                for name, _ in await self._shop.ask(lane, "XRANGE", lane, "-", "+", "COUNT", 1) if entries else []:
+                    oldest = max(0, int(seconds) + int(micro) / 1e6 - int(name.partition("-")[0]) / 1000)
+            found[lane.partition(":rows:")[2]] = oldest, entries, sum(it[it.index("pending") + 1] for it in groups)
+        return found

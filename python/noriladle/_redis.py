@@ -7,22 +7,25 @@ from __future__ import annotations
 
 import asyncio
 import binascii
-import contextlib
 import random
 import ssl
 import time
-from collections import Counter
-from typing import Any, Callable, Dict, List, Optional, Sequence, Set, Tuple, Union
+from collections import defaultdict
+from typing import Any, Callable, DefaultDict, Dict, List, Optional, Sequence, Set, Union
+
+try:
+    import hiredis
+except ImportError as fault:
+    raise ImportError("Redis needs hiredis: apt-get install python3-hiredis") from fault
 
 Word = Union[str, int]
-Slots = Tuple[Tuple[int, int, str], ...]
-"""The first and last slot of each range, and the address of the node that has it."""
+Slots = Dict[int, str]
+"""The address of the node that has a slot."""
 
 REPLY = 8 << 20
 """Replies with more bytes are refused; those to commands that are sent together count together."""
-_CONNECT, _ANSWER = 1.0, 2.5
-_MOVED = ("MOVED", "ASK", "TRYAGAIN", "CLUSTERDOWN", "READONLY", "MASTERDOWN")
-"""Errors after which the nodes may know of a newer map."""
+_CONNECT, _ANSWER, _SAME = 5.0, 2.5, 10.0
+"""Seconds for a connection, and for a reply; and from an error until the same one is told again."""
 
 
 class Fault(Exception):
@@ -34,11 +37,11 @@ class Fault(Exception):
         return str(self).partition(" ")[0]
 
 
-class TooMuch(OSError):
+class TooMuch(Exception):
     """A reply is too long."""
 
 
-FAULTS = (Fault, OSError)
+FAULTS = (Fault, TooMuch, OSError)
 """What a command may raise. No TimeoutError of asyncio leaves this module."""
 
 
@@ -46,42 +49,34 @@ class _Connection:
     """One connection to a node, for one call at a time."""
 
     def __init__(self, reader: asyncio.StreamReader, writer: asyncio.StreamWriter) -> None:
-        try:
-            import hiredis
-        except ImportError as fault:
-            raise ImportError("Redis needs hiredis: apt-get install python3-hiredis") from fault
-        self._reader, self._writer = reader, writer
+        self._reader, self._writer, self.close = reader, writer, writer.transport.abort
         self._replies = hiredis.Reader(encoding="utf-8", errors="replace", replyError=Fault, protocolError=OSError)
-        self._size = 0
 
     async def ask(self, commands: Sequence[Sequence[Word]]) -> List[Any]:
         """The reply to each command; a refused one has a :class:`Fault` in its place."""
         timer = asyncio.get_running_loop().call_later(_ANSWER, self.close)
-        self._size = 0
+        replies: List[Any] = []
+        size = 0
         try:
             self._writer.write(b"".join(map(_packed, commands)))
-            return [await self._reply() for _ in commands]
+            while len(replies) < len(commands):
+                reply = self._replies.gets()
+                if reply is not False:  # No reply yet: a node never sends this.
+                    replies.append(reply)
+                    continue
+                some = await self._reader.read(1 << 16)
+                size += len(some)
+                if not some:
+                    raise ConnectionResetError("the node has ended the connection, or is silent")
+                if size > REPLY:
+                    raise TooMuch(f"a reply of more than {REPLY} bytes")
+                self._replies.feed(some)
+            return replies
         except BaseException:
             self.close()
             raise
         finally:
             timer.cancel()
-
-    async def _reply(self) -> Any:
-        while True:
-            reply = self._replies.gets()
-            if reply is not False:  # No reply yet: a node never sends this.
-                return reply
-            some = await self._reader.read(1 << 16)
-            self._size += len(some)
-            if not some:
-                raise ConnectionResetError("the node has ended the connection, or is silent")
-            if self._size > REPLY:
-                raise TooMuch(f"a reply of more than {REPLY} bytes")
-            self._replies.feed(some)
-
-    def close(self) -> None:
-        self._writer.transport.abort()
 
 
 def _packed(words: Sequence[Word]) -> bytes:
@@ -90,86 +85,23 @@ def _packed(words: Sequence[Word]) -> bytes:
     return b"*%d\r\n%b" % (len(told), b"".join(b"$%d\r\n%b\r\n" % (len(word), word) for word in told))
 
 
-class Node:
-    """A node, with a connection for each call that runs at the same time."""
-
-    def __init__(
-        self, address: str, user: Optional[str], password: Optional[str], tls: Optional[ssl.SSLContext],
-    ) -> None:
-        self.address, self._user, self._password, self._tls = address, user, password, tls
-        self._free: List[_Connection] = []
-
-    async def ask(self, *words: Word) -> Any:
-        """The reply to a command.
-
-        :raises Fault: the node refuses it.
-        :raises OSError: it does not answer.
-        """
-        return whole((await self.ask_all([words]))[0])
-
-    async def ask_all(self, commands: Sequence[Sequence[Word]]) -> List[Any]:
-        """The replies to commands that are sent together; a refused one has a :class:`Fault` in its place."""
-        connection = self._free.pop() if self._free else await self._connect()
-        try:
-            replies = await connection.ask(commands)
-        except TooMuch:
-            raise
-        except OSError:
-            # Other connections to a node that has gone are dead too.
-            self.close()
-            raise
-        self._free.append(connection)
-        return replies
-
-    async def streams(self, pattern: str) -> Set[str]:
-        """The names of its streams that match a pattern."""
-        found, cursor = set(), "0"
-        while True:
-            cursor, some = await self.ask("SCAN", cursor, "MATCH", pattern, "COUNT", 1000, "TYPE", "stream")
-            found.update(some)
-            if cursor == "0":
-                return found
-
-    async def _connect(self) -> _Connection:
-        host, _, port = self.address.rpartition(":")
-        try:
-            reader, writer = await asyncio.wait_for(
-                asyncio.open_connection(host.strip("[]"), int(port), ssl=self._tls, limit=1 << 20),
-                # A node that many have lost makes their handshakes of TLS one after the other.
-                2 * _ANSWER if self._tls else _CONNECT)
-        except asyncio.TimeoutError:
-            raise OSError(f"{self.address} does not answer") from None
-        connection = _Connection(reader, writer)
-        if self._password is not None:
-            said = (await connection.ask([["AUTH", *([self._user] if self._user else []), self._password]]))[0]
-            if isinstance(said, Fault):
-                connection.close()
-                raise said
-        return connection
-
-    def close(self) -> None:
-        """Ends the connections that no call has."""
-        while self._free:
-            self._free.pop().close()
-
-
 class Redis:
-    """A Redis Cluster, the master of Sentinels, or one Redis, found by the addresses of nodes, ``HOST:PORT``.
-
-    One node or Sentinel that runs is enough. ``master`` is the name of the master at the Sentinels. ``note`` gets one
-    error in 10 seconds.
+    """A Redis Cluster, one Redis, or the ``master`` of this name at Sentinels, found by the addresses of nodes or of
+    Sentinels, ``HOST:PORT``. One of them that runs is enough. ``note`` gets errors, the same one once in 10 seconds.
     """
 
     def __init__(
         self, addresses: Sequence[str], user: Optional[str] = None, password: Optional[str] = None,
-        tls: Optional[ssl.SSLContext] = None, note: Callable[[str], None] = lambda said: None, master: str = "lanes",
+        tls: Optional[ssl.SSLContext] = None, note: Callable[[str], None] = lambda said: None, master: Optional[str] = None,
     ) -> None:
-        self._addresses, self._user, self._password, self._tls = set(addresses), user, password, tls
-        self._note, self._master, self._told = note, master, -10.0
-        self._nodes: Dict[str, Node] = {}
-        self._slots: Slots = ()
+        self._addresses, self._tls, self._note, self._master = set(addresses), tls, note, master
+        self._login = [] if password is None else ["AUTH", *([user] if user else []), password]
+        self._free: DefaultDict[str, List[_Connection]] = defaultdict(list)
+        """The connections to each node that no call has."""
+        self._slots: Slots = {}
         self._asking: Optional[asyncio.Future[None]] = None
-        self._fault: Exception = OSError("no node answers")
+        self._fault: Exception = OSError("no node has this lane")
+        self._told: Dict[str, float] = {}
 
     async def ask(self, key: str, *words: Word) -> Any:
         """The reply to a command, by the node that has a key.
@@ -181,97 +113,108 @@ class Redis:
 
     async def ask_all(self, key: str, commands: Sequence[Sequence[Word]]) -> List[Any]:
         """The replies to commands that are sent together, by the node that has a key; a refused one has a
-        :class:`Fault` in its place. While a slot moves, single commands follow its keys, and a MULTI is refused."""
-        replies = await (await self.node(key)).ask_all(commands)
-        for place, reply in enumerate(replies):
-            if isinstance(reply, Fault) and reply.kind == "ASK" and commands[0][0] != "MULTI":
-                node = self._at(str(reply).split()[2])
-                replies[place] = (await node.ask_all([("ASKING",), commands[place]]))[1]
-        return replies
+        :class:`Fault` in its place."""
+        return await self._ask_at(await self.address(key), commands)
 
-    async def node(self, key: str) -> Node:
-        """The node that has a key."""
-        slot = slot_of(key)
-        for first, last, address in await self._map():
-            if first <= slot <= last:
-                return self._at(address)
-        raise OSError(f"no node has slot {slot}")
+    async def address(self, key: str) -> str:
+        """The address of the node that has a key, by the tag in its braces."""
+        slot = binascii.crc_hqx(key.partition("{")[2].partition("}")[0].encode(), 0) % 16_384
+        if slot not in self._slots:
+            await asyncio.shield(self._renew())
+        if slot not in self._slots:
+            raise self._fault
+        return self._slots[slot]
 
-    async def masters(self) -> List[Node]:
-        """All nodes that have keys."""
-        return [self._at(address) for address in sorted({address for _, _, address in await self._map()})]
+    async def streams(self, key: str, pattern: str) -> Set[str]:
+        """The names that match a pattern, of streams on the node that has a key."""
+        found, cursor = set(), "0"
+        while True:
+            cursor, some = await self.ask(key, "SCAN", cursor, "MATCH", pattern, "COUNT", 1000, "TYPE", "stream")
+            found.update(some)
+            if cursor == "0":
+                return found
+
+    def tell(self, said: str) -> None:
+        """Gives ``note`` an error, unless it had the same one just now."""
+        now = time.monotonic()
+        self._told = {it: when for it, when in self._told.items() if when > now - _SAME}
+        if said not in self._told:
+            self._told[said] = now
+            self._note(said)
 
     async def rest(self, fault: Exception) -> None:
-        """After an error: asks for a newer map, if there may be one, and waits a little."""
-        if time.monotonic() >= self._told + 10:
-            self._note(str(fault))
-            self._told = time.monotonic()
-        if not isinstance(fault, Fault) or fault.kind in _MOVED:
-            with contextlib.suppress(*FAULTS):
-                await self._map(anew=True)
+        """After an error: asks for a newer map of the nodes, without waiting for it, and rests a little."""
+        self.tell(str(fault))
+        self._renew()
         await asyncio.sleep(random.uniform(0.05, 0.15))
 
-    def _at(self, address: str) -> Node:
-        if address not in self._nodes:
-            self._nodes[address] = Node(address, self._user, self._password, self._tls)
-        return self._nodes[address]
-
-    async def _map(self, anew: bool = False) -> Slots:
-        """Which node has which slots. Asks one time for all callers; until it is told a map, the old one stays."""
-        if anew or not self._slots:
-            if self._asking is None or self._asking.done():
-                self._asking = asyncio.ensure_future(self._ask())
-            await asyncio.shield(self._asking)
-        if not self._slots:
-            raise self._fault
-        return self._slots
+    def _renew(self) -> asyncio.Future[None]:
+        """Asks for the map, one time for all callers."""
+        if self._asking is None or self._asking.done():
+            self._asking = asyncio.ensure_future(self._ask())
+        return self._asking
 
     async def _ask(self) -> None:
-        """Asks all addresses at once, until more than half say the same, or all have said something. What most say
-        counts, since a node that was away may know an old map."""
-        told: Counter[Slots] = Counter()
-        known = {address for _, _, address in self._slots} if len(self._slots) > 1 else set()
-        asked = [asyncio.ensure_future(self._ask_one(address)) for address in self._addresses | known]
+        """Asks all addresses at once for the map; the first answer counts. If there is none, the old map stays."""
+        asked = [asyncio.ensure_future(self._map_of(address)) for address in self._addresses.union(self._slots.values())]
         for one in asyncio.as_completed(asked):
             try:
-                told[await one] += 1
+                self._slots = await one
+                break
             except FAULTS as fault:
                 self._fault = fault
-            if 2 * max(told.values(), default=0) > len(asked):
-                break
         for late in asked:
             late.cancel()
         await asyncio.gather(*asked, return_exceptions=True)
-        if told:
-            self._slots = told.most_common(1)[0][0]
 
-    async def _ask_one(self, address: str) -> Slots:
-        """The map as one address tells it. A node of a cluster may not know its own host, a Sentinel no password."""
-        node, host = self._at(address), address.rpartition(":")[0]
+    async def _map_of(self, address: str) -> Slots:
+        """The map as one address tells it. A node of a cluster may not know its own host."""
+        if self._master is not None:
+            master = whole((await self._ask_at(address, [["SENTINEL", "GET-MASTER-ADDR-BY-NAME", self._master]]))[0])
+            if master is None:
+                raise OSError(f"the Sentinel {address} knows no master {self._master!r}")
+            return dict.fromkeys(range(16_384), ":".join(master))
+        slots, = await self._ask_at(address, [["CLUSTER", "SLOTS"]])
+        if isinstance(slots, Fault) and "cluster support disabled" in str(slots):
+            return dict.fromkeys(range(16_384), address)
+        return {slot: f"{host or address.rpartition(':')[0]}:{port}"
+                for first, last, (host, port, *_), *_ in whole(slots) for slot in range(first, last + 1)}
+
+    async def _ask_at(self, address: str, commands: Sequence[Sequence[Word]]) -> List[Any]:
+        free = self._free[address]
         try:
-            slots = await node.ask("CLUSTER", "SLOTS")
-            return tuple(sorted((first, last, f"{its or host}:{port}") for first, last, (its, port, *_), *_ in slots))
-        except Fault as fault:
-            if "cluster support disabled" in str(fault):
-                return ((0, 16383, address),)
-            sentinel = node if "unknown command" in str(fault) else Node(address, None, None, self._tls)
-            try:
-                master = await sentinel.ask("SENTINEL", "GET-MASTER-ADDR-BY-NAME", self._master)
-            except Fault:
-                raise fault from None
-            finally:
-                sentinel.close()
-        if master is None:
-            raise OSError(f"the Sentinel {address} knows no master {self._master!r}")
-        return ((0, 16383, ":".join(master)),)
+            connection = free.pop() if free else await self._connect(address)
+            replies = await connection.ask(commands)
+        except OSError:
+            # Other connections to a node that has gone are dead too.
+            while free:
+                free.pop().close()
+            raise
+        free.append(connection)
+        return replies
+
+    async def _connect(self, address: str) -> _Connection:
+        """A connection, which has logged in. Sentinels have no password."""
+        host, _, port = address.rpartition(":")
+        opening = asyncio.open_connection(host.strip("[]"), int(port), ssl=self._tls, limit=1 << 20)
+        try:
+            connection = _Connection(*await asyncio.wait_for(opening, _CONNECT))
+        except asyncio.TimeoutError:
+            raise OSError(f"{address} does not answer") from None
+        if self._login and not (self._master and address in self._addresses):
+            said, = await connection.ask([self._login])
+            if isinstance(said, Fault):
+                connection.close()
+                raise said
+        return connection
 
     async def close(self) -> None:
         """Ends all connections."""
-        for node in self._nodes.values():
-            node.close()
+        for free in self._free.values():
+            while free:
+                free.pop().close()
         # The loop closes their sockets in its next turn.
-        with contextlib.suppress(asyncio.CancelledError):
-            await asyncio.sleep(0)
+        await asyncio.sleep(0)
 
 
 def whole(reply: Any) -> Any:
@@ -279,12 +222,3 @@ def whole(reply: Any) -> Any:
     if isinstance(reply, Fault):
         raise reply
     return reply
-
-
-def slot_of(key: str) -> int:
-    """The slot of a key in a cluster: of the tag in its first braces, if it has one."""
-    told = key.encode("utf-8", "replace")
-    begin = told.find(b"{")
-    end = told.find(b"}", begin + 1)
-    tag = told[begin + 1:end] if begin >= 0 and end > begin + 1 else told
-    return binascii.crc_hqx(tag, 0) % 16384

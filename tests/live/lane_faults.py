@@ -93,6 +93,8 @@ class Record:
         self.wanted, self.random, self.pool = answers, random.Random(seed), Pool(seed)
         self.right = self.repeated = self.lost = self.strange = 0
         self.wrong, self.notes, self.silence = [], [], {}
+        # Since when each till waits for an answer, by its lane and name.
+        self.waits = {}
         self.until = time.monotonic() + 900
         self.is_over = False
 
@@ -107,11 +109,11 @@ class Record:
         till, n = Till(shop, lane, note=self.notes.append), 0
         while not self.is_over:
             texts = [only] * chance.randint(1, burst) if only else self.pool.some(burst, chance)
-            last, got = time.monotonic(), 0
+            self.waits[lane, name], got = time.monotonic(), 0
             async for number, said in till.read_all(texts):
                 now = time.monotonic()
-                self.silence[lane] = max(self.silence.get(lane, 0), now - last)
-                last = now
+                self.silence[lane] = max(self.silence.get(lane, 0), now - self.waits[lane, name])
+                self.waits[lane, name] = now
                 if (number, said) == (n, self.pool.answers[texts[got]]):
                     self.right += 1
                 else:
@@ -119,6 +121,7 @@ class Record:
                 n, got = n + 1, got + 1
             if got != len(texts):
                 self.wrong.append((lane, n, "answers are missing", len(texts) - got))
+            del self.waits[lane, name]
             if pause:
                 await asyncio.sleep(chance.uniform(0, pause))
         self.repeated, self.lost, self.strange = self.repeated + till.repeated, self.lost + till.lost, self.strange + till.strange
@@ -144,10 +147,11 @@ class Record:
             await asyncio.sleep(0.05)
 
     def longest(self, lanes=None):
-        """The longest silence of some lanes since the last look, which begins again."""
-        found = max((gap for lane, gap in self.silence.items() if lanes is None or lane in lanes), default=0.0)
+        """The longest silence of some lanes since the last look, also of one that has not ended; the next look begins again."""
+        now = time.monotonic()
+        gaps = [*self.silence.items(), *((lane, now - since) for (lane, _), since in self.waits.items())]
         self.silence = {}
-        return found
+        return max((gap for lane, gap in gaps if lanes is None or lane in lanes), default=0.0)
 
     def __str__(self):
         return (f"{self.right} right, {len(self.wrong)} wrong, doubled, out of order or missing; rows submitted again {self.repeated}, "
@@ -214,15 +218,21 @@ class Place:
         self.workers[name].kill()
         self.workers[name].wait()
 
-    def at(self, *ports):
-        """The addresses at which workers look, and the lanes of a till."""
-        self.words = [word for port in ports for word in ("--redis", f"127.0.0.1:{port}")]
+    def at(self, *ports, master=None, user=None):
+        """The addresses at which workers look, and the lanes of a till; those of Sentinels, if the master has a name there."""
+        self.words = [word for port in ports for word in ("--redis", f"127.0.0.1:{port}")] + (["--master", master] if master else [])
         context, of = None, self.certificates
         if of:
             self.words += ["--tls", "--ca", of / "ca.pem", "--cert", of / "client.pem", "--key", of / "client.key"]
             context = ssl.create_default_context(cafile=of / "ca.pem")
             context.load_cert_chain(of / "client.pem", of / "client.key")
-        return Shop([f"127.0.0.1:{port}" for port in ports], tls=context)
+        return Shop([f"127.0.0.1:{port}" for port in ports], user, user and "secret", tls=context, master=master)
+
+    def users(self, names):
+        """The words of a node with the rights of `noriladle worker --acl` for these lanes; all passwords are `secret`."""
+        told = subprocess.run([*NORILADLE, "worker", "--acl", *names], capture_output=True, text=True, check=True).stdout
+        (self.folder / "users.acl").write_text(told.replace("#HASH", "#" + hashlib.sha256(b"secret").hexdigest()))
+        return ["--aclfile", self.folder / "users.acl", "--masteruser", "replica", "--masterauth", "secret"]
 
 
 def lanes(count):
@@ -290,7 +300,7 @@ async def takeover(record):
                     await asyncio.sleep(1.5)
                     names.reverse()
 
-        await record.at_work([record.till(shop, lane, pause=0.01, burst=4) for lane in lanes(20)], harm())
+        await record.at_work([record.till(shop, lane, pause=0.01, burst=64) for lane in lanes(20)], harm())
         await shop.close()
     return longest
 
@@ -351,7 +361,7 @@ async def behind(record):
         nodes = {one: start(one), two: start(two, "--replicaof", "127.0.0.1", str(one))}
         while not follows(two):
             await asyncio.sleep(0.1)
-        shop, names = place.at(port), ["one", "two", "three"]
+        shop, names = place.at(port, master="lanes"), ["one", "two", "three"]
         async with OwnSentinel(port) as sentinel:
             sentinel.master = one
             for name in names:
@@ -386,13 +396,14 @@ async def behind(record):
 
 
 async def sentinels(record, tls=False):
-    """Three Sentinels of Redis, a master and two replicas; the master is killed and comes back as a replica. Returns the
+    """Three Sentinels of Redis, a master and two replicas, with rights; the master is killed and comes back as a replica. Returns the
     longest silence after each kill."""
     longest = []
     with Place(tls) as place:
         first, *others = free_ports(3)
-        nodes = {first: place.node(first)}
-        nodes.update((port, place.node(port, "--replicaof", "127.0.0.1", str(first))) for port in others)
+        names, users = lanes(12), place.users(lanes(12))
+        nodes = {first: place.node(first, *users)}
+        nodes.update((port, place.node(port, *users, "--replicaof", "127.0.0.1", str(first))) for port in others)
         await asyncio.sleep(1.5)
         watching = free_ports(3)
         for port in watching:
@@ -400,12 +411,14 @@ async def sentinels(record, tls=False):
             folder.mkdir()
             (folder / "configuration").write_text(
                 f"bind 127.0.0.1\ndir {folder}\nsentinel monitor lanes 127.0.0.1 {first} 2\n"
-                "sentinel down-after-milliseconds lanes 1000\nsentinel failover-timeout lanes 3000\n")
+                "sentinel down-after-milliseconds lanes 1000\nsentinel failover-timeout lanes 3000\n"
+                "sentinel auth-user lanes sentinel\nsentinel auth-pass lanes secret\n")
             place.run(["redis-server", folder / "configuration", "--sentinel", *place.listens(port)])
         await asyncio.sleep(3)
-        shop = place.at(*watching)
+        shops = {lane: place.at(*watching, master="lanes", user=f"till.{lane}") for lane in names}
+        place.words += ["--user", "worker"]
         for name in ("one", "two"):
-            place.worker(name)
+            place.worker(name, REDIS_PASSWORD="secret")
 
         async def harm():
             await asyncio.sleep(3)
@@ -416,11 +429,12 @@ async def sentinels(record, tls=False):
                 nodes[master].wait()
                 await asyncio.sleep(8)
                 longest.append(record.longest())
-                nodes[master] = await asyncio.to_thread(place.node, master)
+                nodes[master] = await asyncio.to_thread(place.node, master, *users)
                 await asyncio.sleep(6)
 
-        await record.at_work([record.till(shop, lane) for lane in lanes(12)], harm())
-        await shop.close()
+        await record.at_work([record.till(shops[lane], lane) for lane in names], harm())
+        for shop in shops.values():
+            await shop.close()
     return longest
 
 
@@ -437,7 +451,7 @@ async def hung(record, tls=False):
         place.certificates = cluster.root if tls else None
         bad, names = cluster.ports[2], ["one", "two", "three"]
         shop = place.at(*(port + 20_000 * tls for port in cluster.ports))
-        healthy = [lane for lane in lanes(24) if (await shop.node(rows(lane))).address != f"127.0.0.1:{bad + 20_000 * tls}"]
+        healthy = [lane for lane in lanes(24) if await shop.address(rows(lane)) != f"127.0.0.1:{bad + 20_000 * tls}"]
         for name in names:
             place.worker(name)
 
@@ -555,23 +569,15 @@ async def deleted(record):
 
 
 
-async def locked(place, port, names, *more):
-    """A node with the rights of `noriladle worker --acl` for these lanes, and the lanes as each of their tills sees them."""
-    told = subprocess.run([*NORILADLE, "worker", "--acl", *names], capture_output=True, text=True, check=True).stdout
-    (place.folder / "users.acl").write_text(told.replace("#HASH", "#" + hashlib.sha256(b"secret").hexdigest()))
-    place.node(port, "--aclfile", place.folder / "users.acl", "--maxmemory-policy", "noeviction", "--proto-max-bulk-len", "1mb",
-               "--maxmemory-clients", "16mb", *more)
-    place.at(port)
+def locked(place, port, names, *more):
+    """A node with rights, and the lanes as each of their tills sees them."""
+    place.node(port, *place.users(names), "--maxmemory-policy", "noeviction", "--proto-max-bulk-len", "1mb", "--maxmemory-clients", "16mb", *more)
+    shops = {lane: place.at(port, user=f"till.{lane}") for lane in names}
     place.words += ["--user", "worker"]
-    return {lane: Shop([f"127.0.0.1:{port}"], f"till.{lane}", "secret") for lane in names}
+    return shops
 
 
-def as_admin(port, *words):
-    """A command of the administrator to a node with rights."""
-    return ask(port, "--no-auth-warning", "--user", "admin", "--pass", "secret", *words)
-
-
-EVIL = [["odd"], ["megabyte"], ["sixty"], ["fields"], ["empty"], ["flood", "10"], ["flood", "60000"], ["flood", "1000000"]]
+EVIL = [["commands"], ["odd"], ["megabyte"], ["sixty"], ["fields"], ["empty"], ["flood", "10"], ["flood", "60000"], ["flood", "1000000"]]
 
 
 async def evil(record, seconds=6):
@@ -580,7 +586,7 @@ async def evil(record, seconds=6):
     told = {}
     with Place() as place:
         port, = free_ports(1)
-        shops = await locked(place, port, lanes(8), "--maxmemory", "300mb")
+        shops = locked(place, port, lanes(8), "--maxmemory", "300mb")
         for name in ("one", "two"):
             place.worker(name, REDIS_PASSWORD="secret")
         bad, *others = lanes(8)
@@ -620,7 +626,7 @@ async def full(record):
     with Place() as place:
         port, = free_ports(1)
         many = [f"bad.{number}" for number in range(10)]
-        shops = await locked(place, port, [*many, *lanes(4)], "--maxmemory", "60mb")
+        shops = locked(place, port, [*many, *lanes(4)], "--maxmemory", "60mb")
         with contextlib.suppress(Fault):
             for lane in many * 8:
                 await shops[lane].ask(rows(lane), "XADD", rows(lane), "*", "t", "x" * 1_000_000)

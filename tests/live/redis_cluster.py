@@ -48,6 +48,10 @@ class Cluster:
         """The address of a node's machine."""
         return "127.0.0.1"
 
+    def bus(self, port):
+        """The ports by which other nodes reach a node."""
+        return [port]
+
     def ask(self, port, *words):
         """A command to a node, from its own machine."""
         return ask(port, *words)
@@ -63,7 +67,7 @@ class Cluster:
                 first, end = (16384 * n // self.masters for n in (i, i + 1))
                 if i < self.masters:
                     assert self.ask(port, "CLUSTER", "ADDSLOTSRANGE", first, end - 1) == "OK"
-                self.ask(port, "CLUSTER", "MEET", self.host(self.ports[0]), self.ports[0])
+                self.ask(port, "CLUSTER", "MEET", self.host(self.ports[0]), *self.bus(self.ports[0]))
             self.wait()
             for master, replica in zip(self.ports, self.ports[self.masters:]):
                 assert self.ask(replica, "CLUSTER", "REPLICATE", self.ask(master, "CLUSTER", "MYID")) == "OK"
@@ -139,7 +143,7 @@ def make_certificates(folder):
 
 
 class Secured(Cluster):
-    """A cluster that clients reach over TLS, each node by a port that is 20,000 above its own."""
+    """A cluster over TLS; clients reach each node by a port that is 20,000 above its own."""
 
     def __init__(self, nodes=3):
         super().__init__(nodes)
@@ -147,9 +151,12 @@ class Secured(Cluster):
 
     def start(self, port):
         of = self.root
-        self.more = (f"tls-port {port + 20_000}\ntls-cluster no\ntls-auth-clients yes\ntls-cert-file {of}/node.pem\n"
+        self.more = (f"tls-port {port + 20_000}\ntls-cluster yes\ncluster-port {port + 10_000}\ntls-auth-clients yes\ntls-cert-file {of}/node.pem\n"
                      f"tls-key-file {of}/node.key\ntls-ca-cert-file {of}/ca.pem\n")
         super().start(port)
+
+    def bus(self, port):
+        return [port + 20_000, port + 10_000]
 
 
 class Preloaded(Cluster):

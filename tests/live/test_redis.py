@@ -128,9 +128,10 @@ def test_a_hub_is_killed():
 def test_a_worker_sleeps_with_rows_that_another_answers():
     """It wakes and writes their answers again: the till gives each once."""
     async def test(address):
-        shop, asleep = Shop(address), asyncio.Event()
+        shop, begun, asleep = Shop(address), asyncio.Event(), asyncio.Event()
 
         async def slow(texts):
+            begun.set()
             await asleep.wait()
             return [READ] * len(texts)
 
@@ -141,9 +142,7 @@ def test_a_worker_sleeps_with_rows_that_another_answers():
         first = asyncio.ensure_future(one.run())
         till = Till(shop, "3")
         reading = asyncio.ensure_future(till.read(EAN13))
-        while not await shop.ask(keys.rows("3"), "EXISTS", keys.rows("3")) or not one.lanes.get(3) and not any(one.lanes.values()):
-            await asyncio.sleep(0.05)
-        await asyncio.sleep(1)
+        await begun.wait()
         second = asyncio.ensure_future(two.run())
         assert await reading == READ and two.claimed
         asleep.set()

@@ -106,12 +106,12 @@ def test_users_write_what_is_theirs():
     cluster.ask = lambda port, *words: real_ask(port, "--no-auth-warning", "--user", "admin", "--pass", "open", *words)
     with cluster:
         async def test():
-            worker, till = (Shop(cluster.address, name, "open") for name in ("worker", "till.3"))
+            worker, till = (keys.Shop([cluster.address], name, "open", note=notes.append) for name in ("worker", "till.3"))
 
             async def answer(texts):
                 return [READ] * len(texts)
 
-            one = Worker(worker, "one", answer, note=notes.append)
+            one = Worker(worker, "one", answer)
             running = asyncio.create_task(one.run())
             assert len([answer async for _, answer in Till(till, "3").read_all(["100"] * 600)]) == 600
             # A lane that its till may not write.
@@ -162,7 +162,7 @@ def test_what_the_password_of_a_till_may_do():
         allowed = asyncio.run(test())
         assert {(name, key) for name, key in allowed if key in other and name not in ("ping", "auth", "hello", "quit", "reset")} == set()
         mine = {(name, key) for name, key in allowed if key in (ROWS, ANSWERS) and name not in ("ping", "auth", "hello", "quit", "reset")}
-        assert mine == {("xadd", ROWS), ("xrange", ROWS), ("xread", ANSWERS), ("xrevrange", ANSWERS), ("xtrim", ANSWERS)}
+        assert mine == {("xadd", ROWS), ("xrange", ROWS), ("xread", ANSWERS), ("xtrim", ANSWERS)}
         assert {name for name, key in allowed if not key} <= {"ping", "auth", "hello", "quit", "reset", "cluster|slots"}
 
 
@@ -177,14 +177,14 @@ def test_one_lane_without_a_right():
         told = []
 
         async def test():
-            worker = Shop(cluster.address, "worker", "open")
+            worker = keys.Shop([cluster.address], "worker", "open", note=told.append)
 
             async def answer(texts):
                 return [READ] * len(texts)
 
             made = {name: Till(Shop(cluster.address), name) for name in twins}
             tills = {name: asyncio.ensure_future(till.read(EAN13)) for name, till in made.items()}
-            one = Worker(worker, "one", answer, note=told.append)
+            one = Worker(worker, "one", answer)
             running = asyncio.ensure_future(one.run())
             assert await tills[good] == READ
             till = Till(Shop(cluster.address), good)
@@ -203,6 +203,56 @@ def test_one_lane_without_a_right():
         ask(port, "ACL", "SETUSER", "worker", "reset", *common, f"~{keys.rows(good)}", f"~{keys.answers(good)}", f"~{keys.rows(half)}")
         asyncio.run(test())
         assert any(keys.rows(lane) in it and "NOPERM" in it for it in told) and any(keys.rows(half) in it and "NOPERM" in it for it in told)
+
+
+@pytest.mark.limit(60)
+def test_a_right_is_taken_back():
+    """While a worker has rows: it writes all answers to what it has read and removes the rows, or does neither."""
+    with Cluster(nodes=1) as cluster:
+        port = cluster.ports[0]
+
+        async def test():
+            shop, reads, goes_on = Shop(cluster.address), asyncio.Event(), asyncio.Event()
+
+            async def answer(texts):
+                reads.set()
+                await goes_on.wait()
+                return [READ] * len(texts)
+
+            till, one = Till(shop, "3"), Worker(Shop(cluster.address, "worker", "open"), "one", answer)
+            running, reading = asyncio.ensure_future(one.run()), asyncio.ensure_future(till.read(EAN13))
+            await reads.wait()
+            ask(port, "ACL", "SETUSER", "worker", "resetkeys", f"~{ROWS}", "~nl:{*}")
+            goes_on.set()
+            await asyncio.sleep(3)
+            assert await shop.ask(ROWS, "XLEN", ROWS) == 1 and not reading.done() and one.given == 0
+            ask(port, "ACL", "SETUSER", "worker", "~*")
+            assert await reading == READ and till.lost == 0
+            one.stopping = True
+            await running
+
+        ask(port, "ACL", "SETUSER", "worker", "on", ">open", "+@all", "~*")
+        asyncio.run(test())
+
+
+def test_answers_that_nobody_reads():
+    """Of a till that has gone, Redis keeps some 4,096 entries."""
+    with Cluster(nodes=1) as cluster, Workers(cluster.address, 1) as workers:
+        asyncio.run(read_lane(cluster.address, "3", [EAN13]))
+        add = [["XADD", ROWS, "*", "s", "e", "n", n, "t", EAN13] for n in range(6000)]
+
+        async def test():
+            shop = Shop(cluster.address)
+            for at in range(0, len(add), 1000):
+                await shop.ask_all(ROWS, add[at:at + 1000])
+            while await shop.ask(ROWS, "XLEN", ROWS):
+                await asyncio.sleep(0.2)
+            await asyncio.sleep(2)
+            assert 4000 < await shop.ask(ANSWERS, "XLEN", ANSWERS) < 4300
+            await shop.close()
+
+        asyncio.run(test())
+        workers.end()
 
 
 @pytest.mark.limit(120)
@@ -252,10 +302,11 @@ def test_a_till_of_another_type_or_without_ids():
 
 @pytest.mark.limit(60)
 def test_consumers_that_do_nothing_are_removed():
-    """Names of machines that come and go do not stay for ever; what one of them had read is answered first."""
+    """Names of machines that come and go do not stay for ever; all that one of them had read is answered."""
     with Cluster(nodes=1) as cluster:
         port = cluster.ports[0]
-        ask(port, "XADD", ROWS, "*", "s", "e", "n", "0", "t", EAN13)
+        for number in range(100):
+            ask(port, "XADD", ROWS, "*", "s", "e", "n", number, "t", EAN13)
         ask(port, "XGROUP", "CREATE", ROWS, "workers", "0")
         ask(port, "XREADGROUP", "GROUP", "workers", "gone", "STREAMS", ROWS, ">")
         ask(port, "XGROUP", "CREATECONSUMER", ROWS, "workers", "idle")
@@ -278,7 +329,7 @@ def test_consumers_that_do_nothing_are_removed():
                 await shop.close()
                 return {it[1] for it in told}
 
-            assert asyncio.run(test()) == {"gone", "fresh", "one"}
+            assert asyncio.run(test()) == {"fresh", "one"}
             assert asyncio.run(entries(cluster.address, ROWS)) == []
         finally:
             keys.DAY = before

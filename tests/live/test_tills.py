@@ -41,17 +41,17 @@ def write(port, *words):
 
 
 @pytest.mark.limit(120)
-@pytest.mark.parametrize("evil", ["one entry of 60 MB", "many rows of 1 MB"])
+@pytest.mark.parametrize("evil", ["one entry of 60 MB", "one entry of 20 MB", "many rows of 1 MB"])
 def test_entries_that_are_too_long_kill_no_worker(evil):
-    """A row of 1 MB has its refusal; an entry over the limit of a reply is dropped unread. Another lane goes on meanwhile, and the
-    worker takes no more memory for it."""
+    """A row of 1 MB has its refusal; an entry over the limit of a reply is dropped unread, and one over that of a lane goes with the
+    lane's rows. Another lane goes on meanwhile, and the worker takes no more memory for it."""
     async def test(shop, node):
         with Workers(node.address, 1) as workers:
             till = Till(shop, "3")
             assert await till.read(EAN13) == READ
             worker = workers.running["worker0"]
             before, other, big = most_memory(worker), Till(shop, "4"), "1 " * 500_000
-            entries = [["t", big] + ["x", big] * 59] if evil.startswith("one") else [["s", "e", "n", "0", "t", big]] * 20
+            entries = [["t", big] + ["x", big] * (int(evil.split()[3]) - 1)] if evil.startswith("one") else [["s", "e", "n", "0", "t", big]] * 20
             for fields in entries:
                 await asyncio.to_thread(write, node.ports[0], "XADD", ROWS, "*", *fields)
             until = time.monotonic() + 60
@@ -66,7 +66,8 @@ def test_entries_that_are_too_long_kill_no_worker(evil):
             assert most_memory(worker) - before < 60_000
             assert await till.read(EAN13) == READ
             said = workers.kill("worker0")
-            assert ("has an entry that is too long, and is dropped" in said) == evil.startswith("one")
+            assert ("has an entry that is too long, and is dropped" in said) == (evil == "one entry of 20 MB")
+            assert (f"{ROWS} is emptied: it had 6" in said) == (evil == "one entry of 60 MB")
     with_node(test)
 
 
@@ -221,6 +222,26 @@ def test_without_a_worker():
     with_node(test)
 
 
+@pytest.mark.limit(60)
+def test_rows_that_only_wait_are_submitted_again_late():
+    """Without a worker they stay in Redis once for 12 seconds, however often the till looks, and twice for 24: a till that submits
+    them again because it is silent would make more work for workers that have too much."""
+    async def test(shop, node):
+        said = []
+        till = Till(shop, "3", note=said.append)
+        answers = till.read_all([EAN13] * 300)
+        reading, begin = asyncio.ensure_future(answers.__anext__()), time.monotonic()
+        while time.monotonic() < begin + 11:
+            await asyncio.sleep(0.2)
+            assert till.repeated == 0 and await shop.ask(ROWS, "XLEN", ROWS) <= 2
+        await asyncio.sleep(begin + 16 - time.monotonic())
+        assert till.repeated == 300 and await shop.ask(ROWS, "XLEN", ROWS) == 4
+        with Workers(node.address, 1):
+            assert await reading == (0, READ) and [it async for it in answers] == [(n, READ) for n in range(1, 300)]
+        assert till.lost == 0 and said == ["lane 3: no worker answers"] * 2
+    with_node(test)
+
+
 def test_the_command_of_a_till_without_a_worker():
     with Cluster(nodes=1) as node:
         words = [*NORILADLE, "till", "--redis", node.address, "3", "--patience", "1"]
@@ -293,7 +314,7 @@ def test_what_an_operator_sees_of_a_worker():
             assert [await till.read(row) for row in (EAN13, "100", EAN8)] == [READ, "refused 19 Blank", GUM]
             await until(lambda: page(port, "/readyz") == "ready\n")
             values = await until(lambda: (it := values_of(port)).get('noriladle_entries{lane="3"}') == "0.0" and it)
-            assert float(values['noriladle_answers_total{lane="3"}']) == 3 and float(values['noriladle_refusals_total{number="19"}']) == 1
+            assert float(values["noriladle_answers_total"]) > 3 and float(values['noriladle_refusals_total{number="19"}']) == 1
             assert [float(values[f'noriladle_{it}{{lane="3"}}']) for it in ("oldest_seconds", "entries", "pending")] == [0, 0, 0]
             assert 0 < float(values[f'noriladle_round_trip_seconds{{node="{name}"}}']) < 5
             assert [float(values[f"noriladle_{it}"]) for it in ("ready", "rows_lost_total", "rows_dropped_total")] == [1, 0, 0]

@@ -30,16 +30,16 @@ _RIGHTS = """user default off
 user admin on #HASH ~* &* +@all
 user replica on #HASH +psync +replconf +ping
 user sentinel on #HASH &* +multi +slaveof +ping +exec +subscribe +config|rewrite +role +publish +info +client|setname +client|kill +script|kill
-user worker on #HASH resetchannels ~nl:* +ping +cluster|slots +scan +time +multi +exec +memory|usage +xadd +xlen +xrange +xrevrange +xread \
+user worker on #HASH resetchannels ~nl:* +ping +cluster|slots +scan +time +multi +exec +memory|usage +xadd +xlen +xrange +xread \
 +xtrim +xack +xdel +xreadgroup +xautoclaim +xgroup|create +xgroup|setid +xgroup|delconsumer +xinfo|groups +xinfo|consumers"""
-_RIGHTS_OF_A_TILL = "user till.{lane} on #HASH resetchannels +ping +cluster|slots (+xadd +xrange ~{rows}) (+xread +xrevrange +xtrim ~{answers})"
+_RIGHTS_OF_A_TILL = "user till.{lane} on #HASH resetchannels +ping +cluster|slots (+xadd +xrange ~{rows}) (+xread +xtrim ~{answers})"
 
 
 def add_redis(parser: argparse.ArgumentParser) -> None:
     """Adds the options that say where Redis is."""
     parser.add_argument("--redis", action="append", default=[], metavar="HOST:PORT",
-                        help="A node of a Redis Cluster, a Sentinel, or a single Redis; name several in case one is down")
-    parser.add_argument("--master", default="lanes", metavar="NAME", help="Name of the master at the Sentinels [default: lanes]")
+                        help="A node of a Redis Cluster, or a single Redis; name several in case one is down")
+    parser.add_argument("--master", metavar="NAME", help="Ask Sentinels: --redis names them, and this the master")
     parser.add_argument("--user", metavar="NAME", help="User of Redis, whose password is in REDIS_PASSWORD [default: REDIS_USER]")
     parser.add_argument("--tls", action="store_true", help="Speak TLS to Redis")
     parser.add_argument("--ca", metavar="FILE", help="Certificates of the authorities to trust for Redis [default: those of the system]")
@@ -92,73 +92,58 @@ def add_arguments(parser: argparse.ArgumentParser) -> None:
 def run(words: argparse.Namespace) -> int:
     """Works until it is told to stop, or its hub ends."""
     if words.acl:
-        tills = [_RIGHTS_OF_A_TILL.format(lane=it, rows=rows(it), answers=answers(it)) for it in words.acl]
-        print("\n".join([_RIGHTS, *tills]))
+        print("\n".join([_RIGHTS, *(_RIGHTS_OF_A_TILL.format(lane=it, rows=rows(it), answers=answers(it)) for it in words.acl)]))
         return RIGHT
     _service.keep_buffers()
     log = Log(words.log, words.json)
     take_libraries(log)
-    return asyncio.run(_Work(words, log).run())
+    return asyncio.run(_run(words, log))
 
 
-class _Work:
-    """A running worker, and what an operator sees of it."""
+async def _run(words: argparse.Namespace, log: Log) -> int:
+    shop, hub, of = shop_of(words, log), Hub(1, words.workers, words.year, ais=words.ais), Metrics()
+    worker, watch = _worker(shop, words.name, hub, of), Watch(shop, of)
+    for number in (signal.SIGTERM, signal.SIGINT):
+        asyncio.get_running_loop().add_signal_handler(number, setattr, worker, "stopping", True)
+    beside: List[asyncio.Future[None]] = []
+    try:
+        async with hub:
+            beside.append(asyncio.ensure_future(_service.keep_alive(lambda: hub.lane(0).read(""))))
+            if words.metrics is not None:
+                health = Health(watch.trip, of)
+                beside += map(asyncio.ensure_future, (health.keep(), watch.keep()))
+                try:
+                    await serve(words.metrics, health, of, log.fault)
+                except OSError as fault:  # That the port is taken does not stop the worker.
+                    log.fault(f"no metrics: {fault.strerror or fault}")
+            notify("READY=1")
+            await worker.run()
+        log.note("stopped", worker=worker.name, answers=worker.given, claimed=worker.claimed, dropped=worker.dropped)
+        return RIGHT
+    except HubEnded as fault:
+        log.fault(str(fault))
+        return REFUSED
+    finally:
+        notify("STOPPING=1")
+        for it in beside:
+            it.cancel()
+        await shop.close()
 
-    def __init__(self, words: argparse.Namespace, log: Log) -> None:
-        self._words, self._log, self._shop = words, log, shop_of(words, log)
-        self._hub = Hub(1, words.workers, words.year, ais=words.ais)
-        self._worker = Worker(self._shop, words.name, self._answer, self._seen, log.fault)
-        self._metrics = of = Metrics()
-        self._watch = Watch(self._shop, of)
-        self._answers = of.counter("noriladle_answers_total", "Rows that were answered, by lane.", "lane")
-        self._refusals = of.counter("noriladle_refusals_total", "Rows that were refused, by the number of the refusal.", "number")
-        of.count_of("noriladle_rows_dropped_total", "Entries that the worker has removed because they were too long, or for want of room.",
-                    lambda: self._worker.dropped)
 
-    async def run(self) -> int:
-        """Works until it is told to stop."""
-        for number in (signal.SIGTERM, signal.SIGINT):
-            asyncio.get_running_loop().add_signal_handler(number, self._stop)
-        beside: List[asyncio.Future[None]] = []
-        try:
-            async with self._hub:
-                beside.append(asyncio.ensure_future(_service.keep_alive(lambda: self._hub.lane(0).read(""))))
-                if self._words.metrics is not None:
-                    beside += await self._serve_metrics(self._words.metrics)
-                notify("READY=1")
-                await self._worker.run()
-            of = self._worker
-            self._log.note("stopped", worker=of.name, answers=of.given, claimed=of.claimed, dropped=of.dropped)
-            return RIGHT
-        except HubEnded as fault:
-            self._log.fault(str(fault))
-            return REFUSED
-        finally:
-            notify("STOPPING=1")
-            for it in beside:
-                it.cancel()
-            await self._shop.close()
+def _worker(shop: Shop, name: str, hub: Hub, of: Metrics) -> Worker:
+    """A worker with the answers of a hub, and with its numbers."""
+    refusals = of.counter("noriladle_refusals_total", "Rows that were refused, by the number of the refusal.", "number")
 
-    async def _serve_metrics(self, port: int) -> List[asyncio.Future[None]]:
-        """Serves health and numbers. A port that is taken does not stop the worker."""
-        health = Health(self._watch.trip, self._metrics)
-        try:
-            await serve(port, health, self._metrics, self._log.fault)
-        except OSError as fault:
-            self._log.fault(f"no metrics: {fault.strerror or fault}")
-        return [asyncio.ensure_future(health.keep()), asyncio.ensure_future(self._watch.keep())]
-
-    def _stop(self) -> None:
-        self._worker.stopping = True
-
-    async def _answer(self, texts: Sequence[str]) -> List[str]:
-        said = [str(reply.answer) async for reply in self._hub.lane(0).read_all(texts, len(texts))]
-        if any(it.startswith("refused 35 ") for it in said):
-            raise HubEnded("the hub has used all numbers of its lane; start the worker again")
+    async def answer(texts: Sequence[str]) -> List[str]:
+        said = [str(reply.answer) async for reply in hub.lane(0).read_all(texts, len(texts))]
+        for number in [it.split()[1] for it in said if it.startswith("refused ")]:
+            if number == "35":
+                raise HubEnded("the hub has used all numbers of its lane; start the worker again")
+            refusals.add(number)
         return said
 
-    def _seen(self, lane: str, said: List[str]) -> None:
-        self._answers.add(lane, by=len(said))
-        for it in said:
-            if it.startswith("refused "):
-                self._refusals.add(it.split()[1])
+    worker = Worker(shop, name, answer)
+    of.count_of("noriladle_answers_total", "Rows that were answered, refusals among them.", lambda: worker.given)
+    of.count_of("noriladle_rows_dropped_total", "Entries that the worker has removed because they were too long, or for want of room.",
+                lambda: worker.dropped)
+    return worker
