@@ -61,7 +61,7 @@ class Edit:
             words = ["timeout", "-s", "INT", "-k", "10", SECONDS, sys.executable, "-m", "pytest", "-q", "-x", f"--basetemp={folder}/tmp"]
             paths = os.pathsep.join([f"{folder}/python", f"{folder}/tests/live"])
             ran = subprocess.run(
-                [*words, *shlex.split(self.test)], cwd=folder, env={**os.environ, "PYTHONPATH": paths, "SCANS": "6000", "REPOSITORY": str(ROOT)}, stdin=subprocess.DEVNULL,
+                [*words, *shlex.split(self.test)], cwd=folder, env={**os.environ, "PYTHONPATH": paths, "SCANS": "6000", "JOURNAL_SCANS": "6000", "REPOSITORY": str(ROOT)}, stdin=subprocess.DEVNULL,
                 capture_output=True, text=True,
             )
         # If a test passed and then had an error, a service wrote to standard error.
