@@ -16,6 +16,8 @@ HANDSHAKE = 5.0
 """How many seconds a client has to begin TLS."""
 SPARE, SPARE_EACH = 32, 8
 """When there is no place left, so many connections to the UNIX socket may still be those of scanners; and of one user."""
+AT_ONCE = 4
+"""How many clients come in before others have their turn."""
 _PAUSE = 1.0
 """Seconds until the next attempt to let clients in, if the system has no descriptor left."""
 
@@ -127,7 +129,7 @@ class Door:
             self._loop.add_reader(self._listening, self._accept)
 
     def _accept(self) -> None:
-        for _ in range(100):
+        for _ in range(AT_ONCE):
             try:
                 its, _ = self._listening.accept()
             except (BlockingIOError, InterruptedError, ConnectionAbortedError):

@@ -2,6 +2,7 @@
 from __future__ import annotations
 
 import asyncio
+import functools
 import itertools
 import math
 import re
@@ -14,7 +15,7 @@ from ._door import Place, Places
 from ._health import Metrics
 from ._journal import Scan
 from ._log import Log
-from ._rights import Rights, all_rights, name_of_token, unix_names
+from ._rights import Rights, all_rights, name_of_token, unix_names, unix_peer
 from ._scans import Listener, ScanLane, Scans, is_series, text_of
 from .live import Hub, HubEnded, Lane
 
@@ -23,8 +24,10 @@ CUT = 65_536 + 1
 
 _SCAN = re.compile(rb"(\d{1,18})(?:([ \t])(.*))?", re.DOTALL)
 _TIMED_SCAN = re.compile(rb"(\d{1,18}) (\d{1,11}\.\d{3})(?:([ \t])(.*))?", re.DOTALL)
-ROWS_AHEAD = 64
-"""How many rows of a connection may be under way."""
+ROWS_AHEAD, LEAST_AHEAD = 64, 4
+"""How many rows of all connections may be under way before each has its share of them; and the least share."""
+PAUSE = 0.02
+"""After so many bytes without a line end as are kept, the connection is read again after these seconds."""
 LINES = 64
 """After so many lines of one connection the others have their turn."""
 _HTTP = re.compile(rb"[A-Z]+ \S+ HTTP/[0-9.]+\r?")
@@ -47,7 +50,8 @@ class Connection:
     def __init__(self, place: Place, reader: asyncio.StreamReader, writer: asyncio.StreamWriter) -> None:
         self.place, self.reader, self.writer = place, reader, writer
         self.is_unix = writer.get_extra_info("socket").family == socket.AF_UNIX
-        self.peer, self.names = _peer(writer, self.is_unix)
+        self.peer = unix_peer(writer.get_extra_info("socket")) if self.is_unix else \
+            ":".join(map(str, (writer.get_extra_info("peername") or ("gone",))[:2]))
         self.asked = ("", "")
         self.task = asyncio.current_task()
         self.closed = ""
@@ -56,6 +60,14 @@ class Connection:
         self.since = 0.0
         """When the last whole line came or was answered; infinite while the client waits for the gateway."""
         self.waits()
+
+    @functools.cached_property
+    def names(self) -> Set[str]:
+        """Its names in a table of rights. They are looked up once it asks for something."""
+        if self.is_unix:
+            return {"anyone", *unix_names(self.writer.get_extra_info("socket"))}
+        subject = (self.writer.get_extra_info("peercert") or {}).get("subject", ())
+        return {"anyone", *(f"certificate {value}" for part in subject for name, value in part if name == "commonName")}
 
     def waits(self) -> None:
         """From now on the gateway waits for the client."""
@@ -77,24 +89,17 @@ class Connection:
             if lines:
                 self.waits()
                 yield lines
-
-
-def _peer(writer: asyncio.StreamWriter, is_unix: bool) -> Tuple[str, Set[str]]:
-    """Who it is, for log lines, and its names in a table of rights."""
-    if is_unix:
-        told, names = unix_names(writer.get_extra_info("socket"))
-    else:
-        told, names = ":".join(map(str, (writer.get_extra_info("peername") or ("gone",))[:2])), set()
-        subject = (writer.get_extra_info("peercert") or {}).get("subject", ())
-        names |= {f"certificate {value}" for part in subject for name, value in part if name == "commonName"}
-    return told, {"anyone", *names}
+            elif len(rest) == CUT:
+                await asyncio.sleep(PAUSE)
 
 
 class Client(Protocol):
     """Somebody with a right: a connection or a page."""
 
-    names: Set[str]
-    """Its names in a table of rights."""
+    @property
+    def names(self) -> Set[str]:
+        """Its names in a table of rights."""
+
     asked: Tuple[str, str]
     """The right that it uses, such as ``watch``, and in which lane; empty before it does."""
 
@@ -127,8 +132,9 @@ class Rows:
         gateway, connection = self._gateway, self._connection
         connection.since = math.inf
         begin = gateway.began[self] = time.monotonic()
+        ahead = max(LEAST_AHEAD, ROWS_AHEAD // len(gateway.began))
         try:
-            async for reply in self._lane.read_all(lines, ROWS_AHEAD):
+            async for reply in self._lane.read_all(lines, ahead):
                 number = "-" if reply.number is None else next(self._numbers)
                 answers.append(f"{number} {text_of(reply.answer, gateway.elements)}")
                 gateway.seen(reply.answer, time.monotonic() - begin)

@@ -59,10 +59,16 @@ def name_of_token(token: str) -> str:
     return f"token {hashlib.sha256(token.encode('utf-8', 'replace')).hexdigest()}"
 
 
-def unix_names(its: socket.socket) -> Tuple[str, Set[str]]:
-    """Who is at the other end of a UNIX socket, for log lines, and its names in a table of rights: its user and groups when
-    it connected, as the kernel reports them."""
-    pid, user, group = struct.unpack("3i", its.getsockopt(socket.SOL_SOCKET, socket.SO_PEERCRED, struct.calcsize("3i")))
+def unix_peer(its: socket.socket) -> str:
+    """Who is at the other end of a UNIX socket, for log lines, as the kernel reports it."""
+    pid, user, _ = _credentials(its)
+    return f"pid-{pid}:uid-{user}"
+
+
+def unix_names(its: socket.socket) -> Set[str]:
+    """The names in a table of rights of who is at the other end of a UNIX socket: its user and groups when it connected, as the
+    kernel reports them."""
+    _, user, group = _credentials(its)
     groups = {group}
     with contextlib.suppress(OSError):  # Of a user in more than 256 groups only the first group counts.
         groups |= set(array.array("I", its.getsockopt(socket.SOL_SOCKET, _PEER_GROUPS, 1024)))
@@ -72,4 +78,10 @@ def unix_names(its: socket.socket) -> Tuple[str, Set[str]]:
     for number in groups:
         with contextlib.suppress(KeyError):
             names.add(f"group {grp.getgrgid(number).gr_name}")
-    return f"pid-{pid}:uid-{user}", names
+    return names
+
+
+def _credentials(its: socket.socket) -> Tuple[int, int, int]:
+    """The process, the user and the group at the other end."""
+    pid, user, group = struct.unpack("3i", its.getsockopt(socket.SOL_SOCKET, socket.SO_PEERCRED, struct.calcsize("3i")))
+    return pid, user, group

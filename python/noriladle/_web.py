@@ -5,11 +5,12 @@ import argparse
 import asyncio
 import functools
 import re
+import socket
 from http import HTTPStatus
 from typing import Any, List, Optional, Set, Tuple
 from urllib.parse import parse_qs, unquote, urlsplit
 
-from ._door import Full
+from ._door import AT_ONCE, Full
 from ._gateway import Closed, Gateway
 from ._scans import Listener, ScanLane
 from .commands import WrongWords
@@ -55,8 +56,10 @@ async def serve(gateway: Gateway, port: int, words: argparse.Namespace) -> Any:
         finally:
             gateway.pages.discard(client)
 
-    server = await serve_pages(connected, "127.0.0.1", port, create_protocol=functools.partial(_Counted, gateway, words), compression=None,
+    its = socket.create_server(("127.0.0.1", port))
+    server = await serve_pages(connected, sock=its, backlog=AT_ONCE, create_protocol=functools.partial(_Counted, gateway, words), compression=None,
                                max_size=4096, ping_interval=10, ping_timeout=10)
+    its.listen(256)  # More may wait than come in at once.
     server.refused = 0
     return server
 

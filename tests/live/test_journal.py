@@ -23,6 +23,8 @@ from test_gateway import page
 LIMIT = 500
 EAN = b"]E09501101530003"
 SCANS = int(os.environ.get("JOURNAL_SCANS", "60000"))
+PARTS = max(1, SCANS // 200_000)
+"""How often the gateway is killed, stopped and short of disk four times each, and the test's time is taken."""
 
 
 def check(folder, *words):
@@ -145,17 +147,17 @@ class Shop:
             assert not it.is_alive()
 
 
-@pytest.mark.limit(450)
+@pytest.mark.limit(450 * PARTS)
 def test_a_gateway_that_is_killed_stopped_and_short_of_disk(tmp_path):
     """Whatever a till saw as an answer is in the journal, with this answer, and once; no answer was old; and the check finds nothing."""
-    folder, chance, times = tmp_path / "journal", random.Random(SEED), 12
+    folder, chance, times = tmp_path / "journal", random.Random(SEED), 12 * PARTS
     gateway = Gateway(tmp_path, "--journal", str(folder), port=False)
     shop = Shop(gateway.unix, "till-1")
     begin, kinds = time.monotonic(), ["kill", "stop", "short"] * (times // 3)
     chance.shuffle(kinds)
     for number, kind in enumerate(kinds):
         while shop.sent < (number + 1) * SCANS // (times + 1):
-            assert time.monotonic() < begin + 420
+            assert time.monotonic() < begin + 420 * PARTS
             time.sleep(0.02)
         if kind == "stop":
             gateway.process.send_signal(signal.SIGSTOP)
@@ -170,7 +172,7 @@ def test_a_gateway_that_is_killed_stopped_and_short_of_disk(tmp_path):
             gateway.process.communicate()
             gateway.process = Gateway(tmp_path, "--journal", str(folder), port=False).process
     while shop.sent < SCANS:
-        assert time.monotonic() < begin + 440
+        assert time.monotonic() < begin + 440 * PARTS
         time.sleep(0.02)
     shop.end()
     gateway.process.terminate()

@@ -32,7 +32,7 @@ import resource
 import signal
 import socket
 import stat
-from typing import Any, Iterator, List, Optional
+from typing import Any, Coroutine, Iterator, List, Optional
 
 from .. import _health, _service
 from .._door import Door, Places
@@ -191,9 +191,8 @@ async def _run(hub: Hub, words: argparse.Namespace) -> str:
         health = Health(lambda: _trip(gateway, ended), metrics)
         servers = await _listen(gateway, words, health)
         _tell_of_certificate(words.tls, log)
-        if words.config:
-            _load_again_when_told(gateway, words)
-        helpers = [asyncio.ensure_future(it) for it in (gateway.sweep(), gateway.scans.beat(), health.keep(), _service.keep_alive(lambda: hub.lane(0).read("")))]
+        helpers = [asyncio.ensure_future(it) for it in (gateway.sweep(), gateway.scans.beat(), health.keep(), _service.keep_alive(lambda: hub.lane(0).read("")),
+                                                        *([_load_again_when_told(gateway, words)] if words.config else []))]
         notify("READY=1")
         await asyncio.wait([ended])
         notify("STOPPING=1")
@@ -288,22 +287,25 @@ def _named(name: str, server: Any) -> Any:
     return server
 
 
-def _load_again_when_told(gateway: Gateway, words: argparse.Namespace) -> None:
+def _load_again_when_told(gateway: Gateway, words: argparse.Namespace) -> Coroutine[Any, Any, None]:
     """Reads the option file and the certificate again at each SIGHUP."""
-    is_right = True
+    is_right, is_told = True, asyncio.Event()
 
-    def load_again() -> None:
+    async def load_again() -> None:
         nonlocal is_right
-        notify("RELOADING=1")
-        is_right = _load_again(gateway, words)
-        notify("READY=1")
+        while await is_told.wait():
+            is_told.clear()
+            notify("RELOADING=1")
+            is_right = await _load_again(gateway, words)
+            notify("READY=1")
 
-    asyncio.get_running_loop().add_signal_handler(signal.SIGHUP, load_again)
+    asyncio.get_running_loop().add_signal_handler(signal.SIGHUP, is_told.set)
     gateway.metrics.gauge("noriladle_config_last_reload_successful", "1 if the last reload took the option file and the certificate, else 0.",
                           lambda: is_right)
+    return load_again()
 
 
-def _load_again(gateway: Gateway, words: argparse.Namespace) -> bool:
+async def _load_again(gateway: Gateway, words: argparse.Namespace) -> bool:
     """Applies what it can of the option file while the gateway runs. Returns whether nothing was refused."""
     faults: List[str] = []
     try:
@@ -320,7 +322,8 @@ def _load_again(gateway: Gateway, words: argparse.Namespace) -> bool:
     gateway.log.all, gateway.log.json = words.log == "all", words.json
     if words.tls:
         try:
-            words.tls.load_again()
+            # In a thread: it makes a handshake.
+            await asyncio.get_running_loop().run_in_executor(None, words.tls.load_again)
         except WrongWords as fault:
             faults.append(f"{fault}; the gateway keeps the certificate that it has")
         _tell_of_certificate(words.tls, gateway.log)

@@ -1,0 +1,317 @@
+"""A healthy lane beside each fault of a shop: a till waits for a scan for at most 100 ms, however others break, sleep, flood or take places.
+
+At the same moments another gateway, which has no fault, answers scans too: what these wait is the machine's, and is allowed beside the 100 ms.
+The hub itself, and the disk of a journal that stops the shop, are of all lanes; so is power. Needs openssl; another machine needs root."""
+import contextlib
+import itertools
+import os
+import shutil
+import signal
+import socket
+import statistics
+import subprocess
+import sys
+import threading
+import time
+
+import pytest
+
+import test_limits
+from gateway_and_scanners import NORILADLE, ROW, Client, Gateway, Serial
+from network import Network
+from program_and_rows import READ
+from test_alerts import all_lanes, mismatched, no_log, scanner_unplugged, second_scanner, wrong_options
+from test_certificates import pair
+from test_limits import EAN, HANDSHAKE
+from test_logs import Blocked, small_pipe
+from test_rights import Authority
+
+LIMIT = 290
+SECONDS = 4.0
+MOST = 0.1
+NUMBERS = itertools.count()
+
+
+class Lane:
+    """A lane with a scanner and a till, and how long its scans waited."""
+
+    def __init__(self, path, stack):
+        self.times, self._number = [], 0
+        self._till, self._scanner = (stack.enter_context(Client(path, socket.AF_UNIX)) for _ in range(2))
+        name = f"good-{next(NUMBERS)}"
+        self._scanner.send(f"scan {name}\n0\n".encode())
+        assert self._scanner.line() == "0 next\n"
+        self._till.send(f"watch {name}\n".encode())
+        assert self._till.line() == "0 next\n"
+        self.name = name
+
+    def scan(self):
+        begin = time.perf_counter()
+        self._scanner.send(b"%d %s\n" % (self._number, EAN))
+        assert self._till.line() == f"{self._number} {READ}\n" == self._scanner.line()
+        self.times.append(time.perf_counter() - begin)
+        self._number += 1
+
+
+# Each makes a shop, gives its socket, gets the name of the healthy lane, and then has its fault, which may go on in threads and processes that the
+# stack ends.
+
+def shop(folder, stack, *words, **more):
+    gateway = Gateway(folder, "--idle", "1000", *words, **more)
+    stack.callback(gateway.process.wait)
+    stack.callback(gateway.process.kill)
+    return gateway
+
+
+def again_and_again(stack, call):
+    """Calls a function until the stack ends."""
+    ends = threading.Event()
+
+    def run():
+        while not ends.is_set():
+            call()
+
+    thread = threading.Thread(target=run, daemon=True)
+    thread.start()
+    stack.callback(thread.join, 10)
+    stack.callback(ends.set)
+
+
+def of_alerts(begin, *words):
+    """A fault of test_alerts.py."""
+    def fault(folder, stack):
+        if "--config" in words:
+            key, file = pair(Authority(folder, "shop"), folder / "first", "first")
+            shutil.copy(key, folder / "key"), shutil.copy(file, folder / "pem")
+            (folder / "gateway.toml").write_text(f'key = "{folder}/key"\ncert = "{folder}/pem"\n')
+        gateway = shop(folder, stack, *(str(folder / word) if word.endswith(".toml") else word for word in words))
+        its = begin(gateway, folder, stack)
+        next(its)
+        yield gateway.unix
+        next(its, None)
+    return fault
+
+
+def certificates(folder, stack):
+    """It is renewed again and again by halves, by others, by none and by expired ones, and clients over TLS come."""
+    authority = Authority(folder, "shop")
+    (key, file), (other_key, other), (_, old) = (pair(authority, folder / name, name, days) for name, days in (("first", "30"), ("second", "30"), ("third", "-1")))
+    (folder / "half").write_bytes(file.read_bytes()[:400])
+    (folder / "empty").write_bytes(b"")
+    (folder / "gateway.toml").write_text(f'key = "{folder}/key"\ncert = "{folder}/pem"\n')
+    shutil.copy(key, folder / "key"), shutil.copy(file, folder / "pem")
+    gateway = shop(folder, stack, "--config", str(folder / "gateway.toml"))
+    yield gateway.unix
+
+    def renew():
+        for its_key, its in ((other_key, file), (other_key, folder / "half"), (folder / "empty", other), (other_key, old), (other_key, other), (key, file)):
+            shutil.copy(its_key, folder / "key"), shutil.copy(its, folder / "pem")
+            gateway.process.send_signal(signal.SIGHUP)
+            with contextlib.suppress(OSError), gateway.connect() as client:
+                client.send(b"\x16\x03\x01 no handshake\n")
+            time.sleep(0.1)
+
+    again_and_again(stack, renew)
+
+
+def a_log_on_a_full_disk(folder, stack):
+    gateway = stack.enter_context(Blocked(folder, stack.enter_context(open("/dev/full", "w"))))
+    yield gateway.unix
+    again_and_again(stack, lambda: Client(gateway.unix, socket.AF_UNIX).__exit__())
+
+
+def a_log_that_nobody_reads(folder, stack):
+    unread, end = small_pipe()
+    stack.callback(os.close, unread), stack.callback(os.close, end)
+    gateway = stack.enter_context(Blocked(folder, end))
+    yield gateway.unix
+    again_and_again(stack, lambda: Client(gateway.unix, socket.AF_UNIX).__exit__())
+
+
+def sockets_of(port, said):
+    """1,100 strangers of a port."""
+    def fault(folder, stack):
+        gateway = shop(folder, stack, "--web", "0")
+        yield gateway.unix
+        for number in range(1_100):
+            its = stack.enter_context(socket.create_connection(("127.0.0.1", gateway.ports[port]), 5))
+            with contextlib.suppress(OSError):
+                its.send(said if number % 2 else b"")
+    return fault
+
+
+def other_program(*words):
+    return subprocess.Popen([sys.executable, *map(str, words)], stdout=subprocess.PIPE)
+
+
+def floods(count):
+    def fault(folder, stack):
+        gateway = shop(folder, stack, port=False)
+        yield gateway.unix
+        its = stack.enter_context(other_program(test_limits.__file__, gateway.unix, count))
+        stack.callback(its.kill)
+    return fault
+
+
+ROWS = """
+import socket, sys, threading
+def drain(its):
+    while its.recv(1 << 16): pass
+for _ in range(int(sys.argv[2])):
+    its = socket.create_connection(("127.0.0.1", int(sys.argv[1])))
+    threading.Thread(target=drain, args=(its,), daemon=True).start()
+    threading.Thread(target=lambda its=its: [its.sendall(sys.argv[3].encode() * 500) for _ in iter(int, 1)], daemon=True).start()
+threading.Event().wait()
+"""
+
+
+def rows(count, row):
+    """Programs that send rows as fast as they go."""
+    def fault(folder, stack):
+        gateway = shop(folder, stack)
+        yield gateway.unix
+        its = stack.enter_context(other_program("-c", ROWS, gateway.ports["port"], count, row))
+        stack.callback(its.kill)
+    return fault
+
+
+def without_a_line_end(folder, stack):
+    gateway = shop(folder, stack)
+    yield gateway.unix
+    clients = [stack.enter_context(gateway.connect()) for _ in range(8)]
+    again_and_again(stack, lambda: [client.send(b"1 " * 50_000) for client in clients])
+
+
+def too_large_numbers(folder, stack):
+    gateway = shop(folder, stack, port=False)
+    yield gateway.unix
+
+    def call():
+        with gateway.unix_client() as client:
+            client.send(b"scan bad\n999999999999999999\n")
+            client.lines.read()
+
+    again_and_again(stack, call)
+
+
+def a_scanner_that_sleeps(folder, stack):
+    """Its program is stopped while it has texts."""
+    gateway = shop(folder, stack, port=False)
+    scanner = stack.enter_context(Serial("--gateway", gateway.unix, "--lane", "till-2"))
+    scanner.send(EAN + b"\r", size=100)
+    assert scanner.line()
+    yield gateway.unix
+    scanner.process.send_signal(signal.SIGSTOP)
+    scanner.send((EAN + b"\r") * 50, size=100)
+    time.sleep(3)
+    scanner.process.send_signal(signal.SIGCONT)
+
+
+def tills_that_take_nothing(folder, stack):
+    """Of the healthy lane itself, and of a page."""
+    gateway = shop(folder, stack, "--web", "0", port=False)
+    lane = yield gateway.unix
+    for _ in range(20):
+        stack.enter_context(gateway.watch(lane))
+        its = stack.enter_context(socket.create_connection(("127.0.0.1", gateway.ports["web"])))
+        its.send(HANDSHAKE.replace(b"till-1", lane.encode()))
+
+
+def a_till_without_power(folder, stack):
+    network = stack.enter_context(Network("shop", "till"))
+    with network.inside("shop"):
+        gateway = shop(folder, stack, "--host", network.addresses["shop"], "--anyone")
+    with network.inside("till"):
+        tills = [stack.enter_context(Client((network.addresses["shop"], gateway.ports["port"]))) for _ in range(20)]
+    lane = yield gateway.unix
+    for till in tills:
+        till.send(f"watch {lane} 2\n".encode())
+        assert till.line()
+    network.cut_off("till")
+
+
+def requests_of_browsers(folder, stack):
+    """To the port of scanners, and to that of the numbers under another name."""
+    gateway = shop(folder, stack, "--metrics", "0")
+    yield gateway.unix
+
+    def call():
+        for name, host in (("port", b"x"), ("metrics", b"evil.example"), ("metrics", b"localhost")):
+            with Client(("127.0.0.1", gateway.ports[name])) as client:
+                client.send(b"GET /metrics HTTP/1.1\r\nHost: " + host + b"\r\n\r\n")
+                with contextlib.suppress(OSError):
+                    client.lines.read()
+    again_and_again(stack, call)
+
+
+def a_second_gateway(folder, stack):
+    gateway = shop(folder, stack, port=False)
+    yield gateway.unix
+    again_and_again(stack, lambda: subprocess.run([*NORILADLE, "gateway", "--unix", gateway.unix], capture_output=True))
+
+
+def connections_that_come_and_go(folder, stack):
+    gateway = shop(folder, stack)
+    yield gateway.unix
+
+    def call():
+        with gateway.connect() as client:
+            client.send(ROW * 20 + ROW[:-10])
+            client.reset()
+    again_and_again(stack, call)
+
+
+def a_journal_that_is_checked(folder, stack):
+    """While it is written."""
+    gateway = shop(folder, stack, "--journal", str(folder / "journal"), port=False)
+    yield gateway.unix
+    again_and_again(stack, lambda: subprocess.run([*NORILADLE, "journal", folder / "journal", "--check"], capture_output=True))
+
+
+def nothing(folder, stack):
+    yield shop(folder, stack, port=False).unix
+
+
+FAULTS = {
+    "nothing": nothing, "certificates are renewed wrongly": certificates, "option files are wrong": of_alerts(wrong_options, "--config", "gateway.toml"),
+    "a key is of another certificate": of_alerts(mismatched, "--config", "gateway.toml"), "the log's disk is full": a_log_on_a_full_disk,
+    "nobody reads the log": a_log_that_nobody_reads, "the log is a full pipe": of_alerts(no_log, "--log", "all"), "1,100 strangers": sockets_of("port", b"1 1"),
+    "1,100 pages": sockets_of("web", HANDSHAKE), "all lanes are taken": of_alerts(all_lanes), "a scanner floods": floods(1), "four scanners flood": floods(4),
+    "a program sends rows": rows(1, ROW.decode()), "twelve programs send rows": rows(12, ROW.decode()), "twelve programs send texts": rows(12, "]E09501101530003\n"),
+    "a line has no end": without_a_line_end, "numbers are too large": too_large_numbers, "a scanner sleeps": a_scanner_that_sleeps,
+    "a scanner is unplugged": of_alerts(scanner_unplugged), "two scanners have a lane": of_alerts(second_scanner), "tills take nothing": tills_that_take_nothing,
+    "a till loses power": a_till_without_power, "browsers send requests": requests_of_browsers, "a second gateway starts": a_second_gateway,
+    "connections come and go": connections_that_come_and_go, "the journal is checked": a_journal_that_is_checked,
+}
+
+
+def go_on(fault, lane):
+    with contextlib.suppress(StopIteration):
+        fault.send(lane)
+
+
+@pytest.fixture(scope="module")
+def control(tmp_path_factory):
+    """A gateway without a fault."""
+    with Gateway(tmp_path_factory.mktemp("control"), "--idle", "1000", port=False) as gateway:
+        yield gateway
+
+
+@pytest.mark.parametrize("name", FAULTS)
+def test_a_healthy_lane(tmp_path, control, name):
+    if name == "a till loses power" and (os.geteuid() or not os.path.exists("/dev/net/tun")):
+        pytest.skip("only root makes machines of network namespaces")
+    with contextlib.ExitStack() as stack:
+        fault = FAULTS[name](tmp_path, stack)
+        lanes = [Lane(path, stack) for path in (next(fault), control.unix)]
+        beginning = threading.Thread(target=go_on, args=(fault, lanes[0].name), daemon=True)
+        begin = time.monotonic()
+        beginning.start()
+        while beginning.is_alive() or time.monotonic() < begin + SECONDS:
+            for lane in lanes:
+                lane.scan()
+            time.sleep(0.01)
+    its, other = lanes
+    print(f"\n{name}: {len(its.times)} scans, median {statistics.median(its.times) * 1e3:.1f} ms, longest {max(its.times) * 1e3:.1f} ms; "
+          f"without a fault {statistics.median(other.times) * 1e3:.1f}, {max(other.times) * 1e3:.1f} ms")
+    assert len(its.times) > 50 and max(its.times) < MOST + max(other.times)
