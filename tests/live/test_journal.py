@@ -181,6 +181,9 @@ def test_a_gateway_that_is_killed_stopped_and_short_of_disk(tmp_path):
     told = {key: said for key, (said, _) in shop.saw.items() if not said.startswith("unread: ")}
     for (series, number), said_to_till in told.items():
         assert answers["till-1", series, number] == (f"]C121{number}", said_to_till)
+    # What was refused since it could not be written is not there.
+    refused = {key for key, (said, _) in shop.saw.items() if said.startswith("unread: the journal cannot be written")}
+    assert refused and not any(("till-1", *key) in answers for key in refused)
     oldest = max(age for said, age in shop.saw.values() if not said.startswith("unread: "))
     print(f"\nseed {SEED}: {shop.sent} scans in {time.monotonic() - begin:.0f} s, {times} faults: a till saw {len(told)} answers, each in the journal, "
           f"once; the oldest was {oldest:.1f} s old; {len(answers)} records; {shop.unread} unread")
@@ -260,6 +263,7 @@ def test_files_follow_each_other_and_have_a_limit(tmp_path):
 
 @pytest.mark.parametrize("what, wanted", [
     ("change an answer", r"scans-\d+.tsv:3: this record was changed, or one before it is missing"),
+    ("change an answer and its sum", r"scans-\d+.tsv:4: this record was changed, or one before it is missing"),
     ("take a record out", r"scans-\d+.tsv:3: this record was changed, or one before it is missing"),
     ("swap two", r"scans-\d+.tsv:3: this record was changed, or one before it is missing"),
     ("take a file out", r"scans-\d+.tsv:1: it does not go on where scans-\d+.tsv ends: a file was taken away or changed"),
@@ -276,6 +280,9 @@ def test_a_journal_that_was_changed(tmp_path, what, wanted):
     lines = second.read_text().splitlines(keepends=True)
     if what == "change an answer":
         lines[2] = lines[2].replace("(01)09501101530003", "(01)09501101530010")
+    elif what == "change an answer and its sum":
+        changed = lines[2].rpartition("\t")[0].replace("(01)09501101530003", "(01)09501101530010")
+        lines[2] = f"{changed}\t{journal_module._sum(changed, lines[1].rstrip().rpartition(chr(9))[2])}\n"
     elif what == "take a record out":
         del lines[2]
     elif what == "swap two":

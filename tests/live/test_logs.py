@@ -58,6 +58,23 @@ def test_a_log_on_a_full_disk(tmp_path):
         gateway.answers(300)
 
 
+def test_a_log_whose_disk_has_room_again(tmp_path):
+    """Lines are written again, and one says how many are missing."""
+    with open(tmp_path / "log", "w+") as log, Blocked(tmp_path, log) as gateway:
+        gateway.answers(5)
+        time.sleep(0.3)
+        pid, size = gateway.process.pid, os.fstat(log.fileno()).st_size
+        resource.prlimit(pid, resource.RLIMIT_FSIZE, (size, resource.RLIM_INFINITY))
+        gateway.answers(20)
+        time.sleep(0.3)
+        assert os.fstat(log.fileno()).st_size == size
+        resource.prlimit(pid, resource.RLIMIT_FSIZE, (resource.RLIM_INFINITY, resource.RLIM_INFINITY))
+        gateway.answers(1)
+        time.sleep(0.3)
+        said = (tmp_path / "log").read_text()[size:].splitlines()
+        assert re.fullmatch(r"\S+Z 40 log lines were dropped", said[0]) and [line.split()[1] for line in said[1:]] == ["connected", "closed"], said
+
+
 def test_a_log_that_nobody_reads(tmp_path):
     unread, end = small_pipe()
     with Blocked(tmp_path, end) as gateway:

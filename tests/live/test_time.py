@@ -111,7 +111,14 @@ def test_a_scanner_s_program_that_slept(gateway):
         until(till.lines, r"again, please: 2 unread: the program of the scanner slept while the text came")
         scanner.send(EAN + b"\r", size=100)
         until(till.lines, "sold: 3 ")
-        assert len(till.lines) == 4, till.lines
+        os.kill(scanner.process.pid, signal.SIGSTOP)
+        scanner.send(b"]E09501", size=100)
+        time.sleep(3)
+        os.kill(scanner.process.pid, signal.SIGCONT)
+        time.sleep(0.5)
+        scanner.send(b"101530003\r", size=100)  # Its first half is old.
+        until(till.lines, r"again, please: 4 unread: the program of the scanner slept while the text came")
+        assert len(till.lines) == 5, till.lines
 
 
 def test_a_scanner_without_a_gateway_that_slept(tmp_path):
@@ -123,7 +130,8 @@ def test_a_scanner_without_a_gateway_that_slept(tmp_path):
         with Gateway(tmp_path, port=False) as gateway, Till(gateway.unix, "till-1") as till:
             time.sleep(3)
             os.kill(scanner.process.pid, signal.SIGCONT)
-            assert scanner.line().startswith("0 unread: ")
+            # It sends nothing of it: a gateway of version 1.1 would not know how old it is.
+            assert scanner.line() == f"0 unread: {gateway.unix}: No such file or directory\n"
             time.sleep(0.5)  # A text within the same moment is unread too: nobody knows when it came.
             scanner.send(EAN + b"\r", size=100)
             until(till.lines, "sold: 1 ")
