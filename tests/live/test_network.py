@@ -184,7 +184,7 @@ def far(tmp_path):
     """A gateway on one machine, and clients on another."""
     with Network("shop", "till") as network:
         with network.inside("shop"):
-            gateway = Gateway(tmp_path, "--host", network.addresses["shop"], "--metrics", "0", "--idle", "5")
+            gateway = Gateway(tmp_path, "--host", network.addresses["shop"], "--anyone", "--metrics", "0", "--idle", "5")
         with gateway:
             yield network, gateway
 
