@@ -164,10 +164,15 @@ def flood(gateway):
     return client
 
 
-def test_one_that_takes_nothing_holds_up_no_other(gateway):
-    with flood(gateway), gateway.connect() as client:
-        for number in range(100):
-            assert client.ask(ROW) == f"{number} {READ}\n"
+def test_one_that_takes_nothing_holds_up_no_other(tmp_path):
+    """Nor is anything more read of it."""
+    with Gateway(tmp_path, "--metrics", "0") as gateway, flood(gateway):
+        answered = gateway.numbers()["noriladle_answers_total"]
+        with gateway.connect() as client:
+            for number in range(100):
+                assert client.ask(ROW) == f"{number} {READ}\n"
+        time.sleep(0.5)
+        assert int(gateway.numbers()["noriladle_answers_total"]) == int(answered) + 100
 
 
 def test_the_hub_dies(tmp_path):
