@@ -139,8 +139,10 @@ class Rows:
                 answers.append(f"{number} {text_of(reply.answer, gateway.elements)}")
                 gateway.seen(reply.answer, time.monotonic() - begin)
         finally:
-            why = await self._keep(lines, answers)
-            del gateway.began[self]
+            try:
+                why = await self._keep(lines, answers)
+            finally:
+                del gateway.began[self]
             if not why:
                 connection.writer.write("".join(f"{answer}\n" for answer in answers).encode())
         if why:
@@ -329,8 +331,9 @@ class Gateway:
 
     async def trip(self) -> str:
         """Has a scan of its own answered by the hub. Returns why it was not, or nothing."""
-        if self.scans.journal and self.scans.journal.stops:
-            return f"the journal cannot be written: {self.scans.journal.why}"
+        why = self.scans.journal.stops() if self.scans.journal else ""
+        if why:
+            return why
         try:
             answer = str((await self.hub.lane(0).read(OWN)).answer)
         except HubEnded as fault:

@@ -11,6 +11,7 @@ import asyncio
 import contextlib
 import fcntl
 import hashlib
+import math
 import os
 import re
 import threading
@@ -18,7 +19,7 @@ import time
 from pathlib import Path
 from typing import Callable, Dict, Iterator, List, NamedTuple, Optional, Tuple
 
-from ._health import Metrics
+from ._health import PATIENCE, Metrics
 from ._log import Log
 from .commands import WrongWords
 
@@ -90,6 +91,8 @@ class Journal:
         self._size = self._bytes = 0
         self._next, self._before = _end_of(self._folder)
         self._missed = 0
+        self._since = math.inf
+        """When the write to the disk began that is under way."""
         self._waiting: List[Tuple[Scan, Optional[Kept]]] = []
         self._wakes = threading.Condition()
         self._ends = False
@@ -102,10 +105,12 @@ class Journal:
         self._thread = threading.Thread(target=self._write_all, name="journal", daemon=True)
         self._thread.start()
 
-    @property
-    def stops(self) -> bool:
-        """Whether scans have no answer now, because the journal cannot be written."""
-        return bool(self.why) and not self._goes_on
+    def stops(self) -> str:
+        """Why scans have no answer now, or nothing."""
+        if self.why and not self._goes_on:
+            return f"the journal cannot be written: {self.why}"
+        waits = time.monotonic() - self._since
+        return f"the journal's disk has not answered for {waits:.0f} seconds" if waits > PATIENCE else ""
 
     def put(self, scan: Scan, kept: Optional[Kept] = None) -> None:
         """Writes a record, and then calls ``kept`` in the loop, in the order of the calls."""
@@ -167,7 +172,7 @@ class Journal:
 
     def _write(self, scans: List[Scan]) -> str:
         """Has records on the disk. Returns why not, and then the file ends where it ended before."""
-        begin = time.monotonic()
+        begin = self._since = time.monotonic()
         number, before = self._next, self._before
         if self._missed:
             scans = [Scan(time.time(), "-", "-", "-", b"", f"gap: {self._missed} scans have no record"), *scans]
@@ -185,6 +190,8 @@ class Journal:
         except OSError as fault:
             self._drop_file()
             return str(fault.strerror)
+        finally:
+            self._since = math.inf
         self._next, self._before, self._missed = number, before, 0
         self._took.see(time.monotonic() - begin)
         return ""

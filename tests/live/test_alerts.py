@@ -16,7 +16,7 @@ import pytest
 from gateway_and_scanners import ROW, Gateway, Serial
 from program_and_rows import ROOT
 from test_certificates import pair
-from test_journal import fill, small_disk  # noqa: F401 (small_disk is a fixture)
+from test_journal import fill, hanging, small_disk  # noqa: F401 (small_disk is a fixture)
 from test_rights import Authority
 
 LIMIT = 560
@@ -185,6 +185,13 @@ def full_disk(gateway, folder, stack):
     fill(folder.parent / "disk")
 
 
+def disk_hangs(gateway, folder, stack):
+    scanning(gateway, stack)
+    yield
+    (folder / "hang").touch()
+    stack.callback((folder / "hang").unlink)
+
+
 def no_log(gateway, folder, stack):
     """The log is a pipe that nobody reads."""
     yield
@@ -210,7 +217,8 @@ FAULTS = {
     "the certificate has expired": (expired, "NoriladleCertificateExpired"), "the certificate ends in ten days": (expired, "NoriladleCertificateExpires"),
     "the certificate and the key are no pair": (mismatched, "NoriladleReloadFailed"), "the option file is wrong": (wrong_options, "NoriladleReloadFailed"),
     "strangers take all places": (strangers, "NoriladleNoPlace"), "all lanes are taken": (all_lanes, "NoriladleLanesAreTaken"),
-    "the journal's disk is full": (full_disk, "NoriladleJournalFails"), "nobody takes the log": (no_log, "NoriladleLogDropsLines"),
+    "the journal's disk is full": (full_disk, "NoriladleJournalFails"), "the journal's disk hangs": (disk_hangs, "NoriladleNotReady"),
+    "nobody takes the log": (no_log, "NoriladleLogDropsLines"),
 }
 
 
@@ -258,13 +266,17 @@ def failed(recorded, tests, folder):
 
 
 @pytest.mark.limit(540)
-def test_each_fault_has_its_alert(tmp_path, small_disk):  # noqa: F811
+def test_each_fault_has_its_alert(tmp_path, monkeypatch, small_disk):  # noqa: F811
     """All faults at the same time, each in a shop of its own; and none for a shop without a fault."""
     shops = {}
     for name, (fault, _) in {"nothing": (nothing, ""), **FAULTS}.items():
         folder = tmp_path / re.sub(r"\W", "-", name)
-        words = words_of(name, folder, small_disk)
-        shops[name] = Recorded(name, folder, fault, *words)
+        words = words_of(name, folder, small_disk if "full" in name else folder)
+        with monkeypatch.context() as its:
+            if fault is disk_hangs:
+                folder.mkdir()
+                hanging(folder, its)
+            shops[name] = Recorded(name, folder, fault, *words)
     for shop in shops.values():
         shop.start()
     for shop in shops.values():

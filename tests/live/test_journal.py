@@ -241,6 +241,41 @@ def test_a_full_disk(tmp_path, small_disk, what):
     assert (records[0].scan, records[-1].scan) == ("0", "60")
 
 
+@pytest.mark.parametrize("what", ["stop", "go-on"])
+def test_a_disk_that_hangs(tmp_path, monkeypatch, what):
+    """Scans are unread, and the gateway is not ready, until it answers; then all that came is there, once."""
+    folder = tmp_path / "journal"
+    hang = hanging(tmp_path, monkeypatch)
+    with Gateway(tmp_path, "--journal", str(folder), "--journal-full", what, "--metrics", "0", port=False) as gateway, gateway.unix_client() as client:
+        assert scan_all(client, "till-1", [EAN]) == [f"0 {READ}\n"]
+        hang.touch()
+        for number in (1, 2):
+            assert client.ask(b"%d %s\n" % (number, EAN)) == f"{number} unread: no answer in 2 seconds\n"
+        status, why = page(gateway, "/readyz")
+        assert status == 503 and re.fullmatch(r"the journal's disk has not answered for [3-9] seconds\n", why)
+        hang.unlink()
+        assert client.ask(b"3 " + EAN + b"\n") == f"3 {READ}\n" and page(gateway, "/readyz") == (200, "ready\n")
+    assert [line.split("\t")[2:] for line in check(folder)[0].splitlines()] == [[str(number), EAN.decode(), READ] for number in range(4)]
+
+
+def hanging(folder, monkeypatch):
+    """A file; while it is there, no write to the disk ends in programs that are started from now on."""
+    (folder / "hang.c").write_text("""
+#define _GNU_SOURCE
+#include <dlfcn.h>
+#include <stdlib.h>
+#include <unistd.h>
+int fdatasync(int file) {
+    while (!access(getenv("HANG"), F_OK)) usleep(10000);
+    return ((int (*)(int))dlsym(RTLD_NEXT, "fdatasync"))(file);
+}
+""")
+    subprocess.run(["gcc", "-shared", "-fPIC", "-o", folder / "hang.so", folder / "hang.c", "-ldl"], check=True)
+    monkeypatch.setenv("LD_PRELOAD", str(folder / "hang.so"))
+    monkeypatch.setenv("HANG", str(folder / "hang"))
+    return folder / "hang"
+
+
 def test_files_follow_each_other_and_have_a_limit(tmp_path):
     """The oldest are removed, and what is left is whole."""
     folder = tmp_path / "journal"
