@@ -178,7 +178,7 @@ def rows(count, row):
 def without_a_line_end(folder, stack):
     gateway = shop(folder, stack)
     yield gateway.unix
-    clients = [stack.enter_context(gateway.connect()) for _ in range(8)]
+    clients = [stack.enter_context(gateway.connect()) for _ in range(40)]
     again_and_again(stack, lambda: [client.send(b"1 " * 50_000) for client in clients])
 
 

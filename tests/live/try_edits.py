@@ -24,7 +24,7 @@ import tempfile
 from concurrent.futures import ThreadPoolExecutor
 from dataclasses import dataclass
 from pathlib import Path
-from typing import Iterator, List, Tuple
+from typing import Dict, Iterator, List, Tuple
 
 ROOT = Path(__file__).resolve().parents[2]
 COPIED = ("python", "examples/till", "tests/live", "tests/page/browser.py", "bench/rows.py")
@@ -41,12 +41,21 @@ class Edit:
     test: str
     changes: List[Tuple[str, str, str]]
 
-    def apply(self, folder: Path) -> None:
+    def changed(self) -> Dict[str, str]:
+        """The scripts with this edit, by their paths; they must be programs still."""
+        texts: Dict[str, str] = {}
         for path, old, new in self.changes:
-            text = (folder / path).read_text()
+            text = texts.get(path) or (ROOT / path).read_text()
             if text.count(old) != 1:
                 sys.exit(f"{self.name}: its old text is in {path} {text.count(old)} times, and not once: {old}")
-            (folder / path).write_text(text.replace(old, new))
+            texts[path] = text.replace(old, new)
+        for path, text in texts.items():
+            if path.endswith(".py"):
+                try:
+                    compile(text, path, "exec")
+                except SyntaxError as fault:
+                    sys.exit(f"{self.name}: {fault}")
+        return texts
 
     def is_found(self) -> bool:
         """Whether its tests fail in a copy with this edit."""
@@ -57,7 +66,8 @@ class Edit:
                     shutil.copytree(ROOT / path, Path(folder, path))
                 else:
                     shutil.copy(ROOT / path, Path(folder, path))
-            self.apply(Path(folder))
+            for path, text in self.changed().items():
+                Path(folder, path).write_text(text)
             words = ["timeout", "-s", "INT", "-k", "10", SECONDS, sys.executable, "-m", "pytest", "-q", "-x", f"--basetemp={folder}/tmp"]
             paths = os.pathsep.join([f"{folder}/python", f"{folder}/tests/live"])
             ran = subprocess.run(
@@ -81,6 +91,8 @@ def edits_of(file: Path) -> Iterator[Edit]:
 def main() -> int:
     files = [Path(word) for word in sys.argv[1:]] or sorted(ROOT.glob("tests/live/must-fail/*.edit"))
     edits = [edit for file in files for edit in edits_of(file)]
+    for edit in edits:
+        edit.changed()
     with ThreadPoolExecutor(4) as pool:
         found = list(pool.map(Edit.is_found, edits))
     print(f"{len(found)} edits: {sum(found)} found, {len(found) - sum(found)} missed")
