@@ -20,7 +20,7 @@ import test_limits
 from gateway_and_scanners import NORILADLE, ROW, Client, Gateway, Serial
 from network import Network
 from program_and_rows import READ
-from test_alerts import all_lanes, mismatched, no_log, scanner_unplugged, second_scanner, wrong_options
+from test_alerts import all_lanes, mismatched, scanner_unplugged, second_scanner, wrong_options
 from test_certificates import pair
 from test_limits import EAN, HANDSHAKE
 from test_logs import Blocked, small_pipe
@@ -117,7 +117,7 @@ def certificates(folder, stack):
 def a_log_on_a_full_disk(folder, stack):
     gateway = stack.enter_context(Blocked(folder, stack.enter_context(open("/dev/full", "w"))))
     yield gateway.unix
-    again_and_again(stack, lambda: Client(gateway.unix, socket.AF_UNIX).__exit__())
+    again_and_again(stack, lambda: come_and_go(gateway.unix, 0.003))
 
 
 def a_log_that_nobody_reads(folder, stack):
@@ -125,7 +125,13 @@ def a_log_that_nobody_reads(folder, stack):
     stack.callback(os.close, unread), stack.callback(os.close, end)
     gateway = stack.enter_context(Blocked(folder, end))
     yield gateway.unix
-    again_and_again(stack, lambda: Client(gateway.unix, socket.AF_UNIX).__exit__())
+    again_and_again(stack, lambda: come_and_go(gateway.unix, 0.003))
+
+
+def come_and_go(path, seconds):
+    """A client whose connection is logged."""
+    Client(path, socket.AF_UNIX).__exit__()
+    time.sleep(seconds)
 
 
 def sockets_of(port, said):
@@ -258,6 +264,7 @@ def connections_that_come_and_go(folder, stack):
         with gateway.connect() as client:
             client.send(ROW * 20 + ROW[:-10])
             client.reset()
+        come_and_go(gateway.unix, 0)
     again_and_again(stack, call)
 
 
@@ -275,7 +282,7 @@ def nothing(folder, stack):
 FAULTS = {
     "nothing": nothing, "certificates are renewed wrongly": certificates, "option files are wrong": of_alerts(wrong_options, "--config", "gateway.toml"),
     "a key is of another certificate": of_alerts(mismatched, "--config", "gateway.toml"), "the log's disk is full": a_log_on_a_full_disk,
-    "nobody reads the log": a_log_that_nobody_reads, "the log is a full pipe": of_alerts(no_log, "--log", "all"), "1,100 strangers": sockets_of("port", b"1 1"),
+    "nobody reads the log": a_log_that_nobody_reads, "1,100 strangers": sockets_of("port", b"1 1"),
     "1,100 pages": sockets_of("web", HANDSHAKE), "all lanes are taken": of_alerts(all_lanes), "a scanner floods": floods(1), "four scanners flood": floods(4),
     "a program sends rows": rows(1, ROW.decode()), "twelve programs send rows": rows(12, ROW.decode()), "twelve programs send texts": rows(12, "]E09501101530003\n"),
     "a line has no end": without_a_line_end, "numbers are too large": too_large_numbers, "a scanner sleeps": a_scanner_that_sleeps,
