@@ -412,6 +412,33 @@ def test_it_stops_when_told(tmp_path, number):
                 os.kill(hub, 0)
 
 
+def test_it_answers_what_is_under_way_before_it_stops(tmp_path):
+    """A row and a scan that the hub has."""
+    with Gateway(tmp_path) as gateway, gateway.free_lane() as client, gateway.unix_client() as scanner:
+        assert scanner.ask(b"scan till-1\n") == "0 next\n"
+        hub = gateway.hub()
+        os.kill(hub, signal.SIGSTOP)
+        client.send(ROW)
+        scanner.send(b"0\n0 ]E09501101530003\n")
+        time.sleep(0.3)
+        gateway.process.send_signal(signal.SIGTERM)
+        time.sleep(0.3)
+        os.kill(hub, signal.SIGCONT)
+        assert client.lines.read() == f"1 {READ}\nclosed: the gateway stops\n".encode()
+        assert scanner.lines.read() == f"0 {READ}\nclosed: the gateway stops\n".encode()
+
+
+def test_a_client_that_has_said_all_gets_its_answers(tmp_path):
+    """A scanner that sends no more, while the hub takes its time."""
+    with Gateway(tmp_path, port=False) as gateway, gateway.unix_client() as scanner:
+        assert scanner.ask(b"scan till-1\n") == "0 next\n"
+        hub = gateway.hub()
+        os.kill(hub, signal.SIGSTOP)
+        threading.Timer(0.5, os.kill, [hub, signal.SIGCONT]).start()
+        scanner.send(b"0\n0 ]E09501101530003\n")
+        assert scanner.ends() == f"0 {READ}\n"
+
+
 def test_a_socket_that_was_left(tmp_path):
     """One that was killed leaves its socket, and the next takes its place."""
     with Gateway(tmp_path) as gateway:

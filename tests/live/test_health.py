@@ -60,6 +60,18 @@ def test_the_oldest_scan_of_each_lane(gateway):
     gateway.waits_for(**{'scanner_connected{lane="till-1"}': 0})
 
 
+def test_the_numbers_of_a_lane(gateway):
+    """What came, what had no answer, what never came, and who found the lane taken."""
+    with gateway.unix_client() as scanner, gateway.unix_client() as other:
+        scanner.send(b"scan till-1\n7\n7 " + EAN + b"\n8\tunplugged\n")
+        assert [scanner.line() for _ in range(3)] == ["0 next\n", f"7 {READ}\n", "8 unread: unplugged\n"]
+        assert scanner.ask(b"12\n12 " + EAN + b"\n") == f"12 {READ}\n"
+        assert other.ask(b"scan till-1\n") == "closed: lane till-1 has a scanner\n"
+        values = gateway.numbers()
+        assert {name: values[f'noriladle_{name}_total{{lane="till-1"}}'] for name in ("scans", "unread", "lost", "scanners_refused")} == {
+            "scans": "3", "unread": "1", "lost": "3", "scanners_refused": "1"}
+
+
 def test_the_histogram_and_the_version(gateway):
     """Each answer is in one of the buckets, and the slow one in that of its time."""
     with gateway.unix_client() as client:

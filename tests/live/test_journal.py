@@ -336,6 +336,37 @@ def test_a_journal_that_was_changed(tmp_path, what, wanted):
         assert scan_all(client, "till-1", [EAN]) == [f"0 {READ}\n"]
 
 
+def test_a_last_file_that_was_changed(tmp_path):
+    """The next gateway begins above every number that may stand behind the changed line, so no number comes twice."""
+    folder = tmp_path / "journal"
+    for count in (6, 1):
+        with Gateway(tmp_path, "--journal", str(folder), port=False) as gateway, gateway.unix_client() as client:
+            assert len(scan_all(client, "till-1", [EAN] * count)) == count
+        if count > 1:
+            file, = folder.glob("scans-*.tsv")
+            file.write_text(file.read_text().replace("\t2\t]E0", "\t2\t]E1"))
+    found = Check(folder)
+    records = list(found)
+    assert [record.number for record in records[:2]] == [1, 2] and len(records) == 3 and records[2].number > 6
+    assert len(found.faults) == 1 and found.faults[0].endswith(":4: this record was changed, or one before it is missing")
+
+
+def test_a_scan_that_is_there_twice(tmp_path):
+    """In the journal of a gateway that is wrong: the check says which. What waits when the gateway stops is written before it has ended."""
+    async def test():
+        journal = Journal(str(tmp_path / "journal"), 1 << 30, False, Log(), Metrics())
+        await put(journal, [5, 6])
+        for number in (6, 3, 7):
+            journal.put(Scan(time.time(), "till-1", "0" * 8, str(number), EAN, READ))
+        journal.put(Scan(time.time(), "till-2", "0" * 8, "6", EAN, READ))
+        journal.close()
+
+    asyncio.run(asyncio.wait_for(test(), 30))
+    _, said, status = check(tmp_path / "journal", "--check")
+    assert status == 1 and said.endswith("6 records in 1 files, 2 faults\n")
+    assert "scan 6 of lane till-1 is there twice, or out of its order: record 3" in said and "scan 3 of lane till-1 is there twice" in said
+
+
 def test_a_record_that_is_cut(tmp_path):
     """The gateway died while it wrote: no answer was sent, which is no fault; the next gateway goes on before it."""
     folder = tmp_path / "journal"
@@ -389,9 +420,15 @@ class Disk:
     """Counts writes to the disk, which take a while, and can refuse them."""
 
     def __init__(self, monkeypatch):
-        self.count, self.refuses = 0, False
-        self.really = os.fdatasync
+        self.count, self.folders, self.refuses = 0, 0, False
+        self.really, self.really_all = os.fdatasync, os.fsync
         monkeypatch.setattr(journal_module.os, "fdatasync", self.sync)
+        monkeypatch.setattr(journal_module.os, "fsync", self.sync_folder)
+
+    def sync_folder(self, descriptor):
+        """A file that is new is on the disk once its folder is."""
+        self.folders += 1
+        self.really_all(descriptor)
 
     def sync(self, descriptor):
         time.sleep(0.1)
@@ -421,14 +458,17 @@ def test_an_answer_waits_for_the_disk_and_shares_its_write(tmp_path, monkeypatch
         begin = time.monotonic()
         done = await put(journal, range(500))
         assert [number for number, _, _ in done] == list(range(500)) and not any(why for _, why, _ in done)
-        assert 2 <= disk.count <= 4 and done[0][2] - begin > 0.2
+        assert 2 <= disk.count <= 4 and done[0][2] - begin > 0.2 and disk.folders == 1
         disk.refuses = True
         assert (await put(journal, [500]))[0][1] == "the journal cannot be written: Input/output error"
         disk.refuses = False
-        assert (await put(journal, [501]))[0][1] == ""
+        assert (await put(journal, [501]))[0][1] == "" and disk.folders == 2
+        assert (await put(journal, [502]))[0][1] == ""
         journal.close()
         found = Check(tmp_path / "journal")
-        assert [record.scan for record in found if record.lane != "-"] == [*map(str, range(500)), "501"]
+        records = list(found)
+        assert [record.scan for record in records if record.lane != "-"] == [*map(str, range(500)), "501", "502"]
+        assert [record.said for record in records if record.lane == "-"] == ["gap: 1 scans have no record"]
         assert not found.faults and len(found.files) == 2
 
     asyncio.run(asyncio.wait_for(test(), 30))

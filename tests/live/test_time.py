@@ -3,6 +3,7 @@ Needs chromium for the page, and root and iproute2 for a gateway far away; else 
 import os
 import re
 import signal
+import socket
 import sys
 import threading
 import time
@@ -136,6 +137,22 @@ def test_a_scanner_without_a_gateway_that_slept(tmp_path):
             scanner.send(EAN + b"\r", size=100)
             until(till.lines, "sold: 1 ")
             assert not [line for line in till.lines if line.startswith("sold: 0 ")]
+
+
+def test_a_gateway_of_the_version_before(tmp_path):
+    """A scanner's program speaks form 1 with it, and form 2 again with the next one."""
+    with socket.socket(socket.AF_UNIX) as its:
+        its.bind(str(tmp_path / "hub"))
+        its.listen()
+        its.settimeout(10)
+        with Serial("--gateway", str(tmp_path / "hub"), "--lane", "till-1"):
+            for wanted, said in ((rb"scan till-1 2 [0-9a-f]{8}\n", b"closed: a lane's name has up to 64 letters, digits and . _ : -\n"),
+                                 (rb"scan till-1\n", b"0 next\n"), (rb"scan till-1 2 [0-9a-f]{8}\n", b"")):
+                client, _ = its.accept()
+                with client:
+                    assert re.fullmatch(wanted, client.recv(100))
+                    client.sendall(said)
+                    time.sleep(0.2)
 
 
 def test_a_till_that_slept(gateway):
