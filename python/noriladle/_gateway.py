@@ -239,25 +239,36 @@ class Till:
 
 
 class Teller:
-    """Writes lines to a connection, those of a turn of the loop at once, and closes it if it does not read them."""
+    """Writes lines to a connection, the first of a turn of the loop at once and the others together, and closes it if it does
+    not read them."""
 
     def __init__(self, connection: Connection) -> None:
         self._connection = connection
         self._lines: List[str] = []
+        self._has_written = False
+        """Whether a line has been written in this turn."""
         self._loop = asyncio.get_running_loop()
 
     def __call__(self, line: str) -> None:
-        if not self._lines:
-            self._loop.call_soon(self._write)
-        self._lines.append(line)
+        if self._has_written:
+            self._lines.append(line)
+        else:
+            self._has_written = True
+            self._loop.call_soon(self._end_turn)
+            self._write(line)
 
-    def _write(self) -> None:
+    def _end_turn(self) -> None:
+        self._has_written = False
+        if self._lines:
+            self._write("".join(self._lines))
+            self._lines.clear()
+
+    def _write(self, lines: str) -> None:
         writer = self._connection.writer
         if writer.transport.get_write_buffer_size() > UNREAD_LINES:
             self._connection.close("what was told is not taken")
         elif not writer.transport.is_closing():
-            writer.write("".join(self._lines).encode())
-        self._lines.clear()
+            writer.write(lines.encode())
 
 
 def _first(line: bytes) -> Tuple[str, str, int, str]:

@@ -138,7 +138,6 @@ class ScanLane:
             self._keep(its_number, asked, "unread: its scanner waits no longer")
         self.next = self._asked = number
         self.series = series
-        self._make_room()
         self._tell(number, "next")
 
     def scan(self, number: int, text: bytes, at: Optional[float] = None, unread: str = "") -> None:

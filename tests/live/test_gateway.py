@@ -296,6 +296,9 @@ def test_log(tmp_path):
     gateway = Gateway(tmp_path, "--log", "all", "--json")
     with gateway.watch("till-1") as till, gateway.unix_client() as scanner:
         assert scanner.ask(b"scan till-1\n") == "0 next\n"
+        for _ in range(3):
+            with gateway.unix_client() as other:
+                assert other.ask(b"scan till-1\n") == "closed: lane till-1 has a scanner\n"
         scanner.send(b"0\nbad\n")
         assert till.line() == "0 next\n"
         assert scanner.line() == "closed: a scan is a number, a blank and a text\n"
@@ -304,6 +307,7 @@ def test_log(tmp_path):
     assert all(line["kind"] == "note" and line["time"].startswith("20") and line["peer"].startswith("pid-") for line in lines)
     told = [(line["what"], line.get("lane"), line.get("why")) for line in lines]
     assert {("till", "till-1", None), ("scanner", "till-1", None), ("closed", None, "a scan is a number, a blank and a text")} <= set(told)
+    assert told.count(("a second scanner was refused", "till-1", None)) == 1  # Its program tries again each second.
 
 
 @pytest.mark.parametrize("text, wanted", [

@@ -463,7 +463,7 @@ def test_an_answer_waits_for_the_disk_and_shares_its_write(tmp_path, monkeypatch
         assert (await put(journal, [500]))[0][1] == "the journal cannot be written: Input/output error"
         disk.refuses = False
         assert (await put(journal, [501]))[0][1] == "" and disk.folders == 2
-        assert (await put(journal, [502]))[0][1] == ""
+        journal.put(Scan(time.time(), "till-1", "0" * 8, "502", EAN, READ))
         journal.close()
         found = Check(tmp_path / "journal")
         records = list(found)

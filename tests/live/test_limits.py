@@ -3,6 +3,7 @@ import asyncio
 import contextlib
 import itertools
 import os
+import signal
 import socket
 import statistics
 import subprocess
@@ -154,6 +155,24 @@ def test_a_user_or_an_address_has_its_limit(tmp_path):
             assert next_one.ask(ROW) == f"0 {READ}\n"
         for client in far[1:]:
             client.__exit__()
+
+
+def test_limits_change_at_work(tmp_path):
+    """By a reload, for those that come then."""
+    file = tmp_path / "gateway.toml"
+    file.write_text("each = 2\n")
+    with Gateway(tmp_path, "--config", str(file)) as gateway, contextlib.ExitStack() as stack:
+        time.sleep(0.5)
+        for _ in range(2):
+            stack.enter_context(gateway.connect())
+        with gateway.connect() as late:
+            assert late.line() == "closed: address 127.0.0.1 has 2 connections\n"
+        file.write_text("each = 3\n")
+        gateway.process.send_signal(signal.SIGHUP)
+        time.sleep(0.5)
+        assert stack.enter_context(gateway.connect()).ask(ROW) == f"0 {READ}\n"
+        with gateway.connect() as late:
+            assert late.line() == "closed: address 127.0.0.1 has 3 connections\n"
 
 
 @pytest.mark.parametrize("host, more, wanted", [

@@ -190,6 +190,7 @@ def test_the_journal_of_scans(container):
     """The service may write it, and nothing else."""
     unit, file = "noriladle-gateway", container.root / "etc/noriladle/gateway.toml"
     before = file.read_text()
+    container.run("rm", "-rf", "/var/lib/noriladle/journal", "/var/lib/private/noriladle/journal")
     file.write_text(before + 'journal = "/var/lib/noriladle/journal"\n')
     assert container.run("systemctl", "start", unit).returncode == 0, container.run("journalctl", "-u", unit, "--no-pager").stdout[-2000:]
     assert ask(container) == f"0 {READ}\n"
