@@ -219,13 +219,30 @@ class Look {
     const numbers = [...(places.gtin ?? []), ...(places.gs1 ?? [])], width = this.width(), shortest = this.shortest();
     const hasNone = (/** @type {ListRecord} */ record) => this.hasNoNumber(record, numbers, { width, shortest });
     const passed = new Set(this.isLines ? [] : records.filter(hasNone));
-    const [price] = places.price ?? [], isAsked = price === undefined && !this.none.has("price");
-    const { faults, lost, delimiter } = this.sheet;
-    return { records: records.filter((record) => !passed.has(record)), places, faults, lost, delimiter, width,
-      shortest,
-      titled: this.titles ? this.first.line : 0, question: isAsked ? this.priceQuestion(choice, places) : null,
+    const rest = records.filter((record) => !passed.has(record)), unused = this.unused(places, records);
+    const question = this.none.has("price") ? null : places.price
+      ? this.doubt(places, { titles: this.sheet.records.slice(0, this.titles), passed: [...passed], records: rest },
+        unused) : this.priceQuestion(choice, places);
+    if (question) delete places.price;
+    const [price] = places.price ?? [], { faults, lost, delimiter } = this.sheet;
+    return { records: rest, places, faults, lost, delimiter, width, shortest,
+      titled: this.titles ? this.first.line : 0, question,
       heading: price === undefined || !this.hasHeading ? undefined : priceHeading(this.first.cells[price] ?? ""),
-      unused: this.unused(places, records), passed: [...passed].map(({ line }) => line), look: this };
+      unused: unused.map((place) => this.named(place)), passed: [...passed].map(({ line }) => line), look: this };
+  }
+
+  /**
+   * The question whether the column of the price is one, if a cell of the list may mean that it is not.
+   * @param {Places} places
+   * @param {{ titles: ListRecord[], passed: ListRecord[], records: ListRecord[] }} lines
+   * @param {number[]} unused
+   * @returns {PriceQuestion | null}
+   */
+  doubt(places, lines, unused) {
+    if (!this.hasHeading || this.asked.price) return null;
+    const [price] = places.price, remark = remarkOn(price, this.first.cells.map(oneBlank), lines, unused);
+    return remark ? { line: remark.line, places: [price],
+      fault: { key: "notShelf", values: [shortText(remark.cell), this.named(price)] } } : null;
   }
 
   /**
@@ -343,7 +360,7 @@ class Look {
   }
 
   /**
-   * The columns that are not used and have a heading or a cell, each by its heading or number.
+   * The columns that are not used and have a heading or a cell.
    * @param {Places} places
    * @param {ListRecord[]} records
    */
@@ -351,8 +368,7 @@ class Look {
     if (this.isLines) return [];
     const used = new Set(Object.values(places).flat());
     return Array.from({ length: this.width() }, (_, place) => place).filter((place) => !used.has(place)
-      && (this.nameOf(place) || records.some(({ cells }) => trimmed(cells[place] ?? ""))))
-      .map((place) => this.named(place));
+      && (this.nameOf(place) || records.some(({ cells }) => trimmed(cells[place] ?? ""))));
   }
 
   /**

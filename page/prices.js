@@ -10,8 +10,8 @@
  * @typedef {{ reason: string, points: number, marks: string[], isCents: boolean, isSure: boolean }} PriceHeading
  */
 
-// A longer text is no heading.
-const MOST_HEADING = 200;
+// A longer text is no heading, or no remark.
+const MOST_HEADING = 200, MOST_REMARK = 1000;
 
 const LETTERS = new Map(Object.entries(PRICES.letters)), ANY_LETTER = RegExp(`[${[...LETTERS.keys()].join("")}]`, "g");
 
@@ -35,7 +35,8 @@ const anyOfEach = (groups) => Object.entries(groups).map(([name, patterns]) => (
 const PRICE_WORDS = { ignored: anyOf(PRICES.ignored), price: anyOf(PRICES.price), own: anyOf(PRICES.own),
   gross: anyOf(PRICES.gross), recommended: anyOf(PRICES.recommended), taxes: anyOf(PRICES.taxes),
     with: anyOf(PRICES.with),
-  without: anyOf(PRICES.without), cents: anyOf(PRICES.cents), carton: anyOf(PRICES.reasons.carton) };
+  without: anyOf(PRICES.without), cents: anyOf(PRICES.cents), carton: anyOf(PRICES.reasons.carton),
+  total: anyOf(PRICES.reasons.total) };
 const PRICE_REASONS = anyOfEach(PRICES.reasons), PRICE_MARKS = anyOfEach(PRICES.marks);
 const SURE_WORDS = anyOf([...PRICES.price, ...PRICES.own, ...PRICES.gross, ...PRICES.recommended, ...PRICES.taxes,
   ...PRICES.with, ...PRICES.cents, ...PRICES.neutral, ...Object.values(PRICES.marks).flat()]);
@@ -80,13 +81,31 @@ function priceHeading(heading) {
   const text = folded(heading).replace(PRICE_WORDS.ignored, "");
   if (!has(PRICE_WORDS.price, text)) return undefined;
   const { isTaxed, tax } = taxOf(text);
-  const reason = PRICE_REASONS.find(({ name, pattern }) => name === tax || has(pattern, text))?.name ?? "";
+  const reason = firstReason(text, tax);
   const points = Number(has(PRICE_WORDS.own, text)) + Number(has(PRICE_WORDS.gross, text)) + 2 * Number(isTaxed);
   const marks = PRICE_MARKS.filter(({ pattern }) => has(pattern, text)).map(({ name }) => name);
   return { reason, points: has(PRICE_WORDS.recommended, text) ? -1 : points, marks,
     isCents: has(PRICE_WORDS.cents, text),
     isSure: !text.replace(SURE_WORDS, "").trim() };
 }
+
+/**
+ * Why the prices that a text speaks of are not those of the shelf; nothing if it does not say, or speaks of a total.
+ * @param {string} text
+ */
+function reasonOf(text) {
+  const words = folded(Array.from(text).slice(0, MOST_REMARK).join("")).replace(PRICE_WORDS.ignored, "");
+  const { tax } = taxOf(words), isAbout = tax === "net" || has(PRICE_WORDS.price, words);
+  return isAbout && !has(PRICE_WORDS.total, words) ? firstReason(words, tax) : "";
+}
+
+/**
+ * The first reason that a folded text gives, or that its words of tax give.
+ * @param {string} text
+ * @param {string} tax
+ */
+const firstReason = (text, tax) =>
+  PRICE_REASONS.find(({ name, pattern }) => name === tax || has(pattern, text))?.name ?? "";
 
 /**
  * Whether a heading says that the tax is included, and else the reason that its words of tax make.

@@ -9,6 +9,7 @@ import sys
 from typing import Any, List, NamedTuple, NoReturn, Optional, Sequence, Tuple
 
 from . import __version__
+from ._shop import machine_language, speak, translated
 from .commands import REFUSED, RIGHT, WRONG_WORDS, WrongWords, tell
 
 
@@ -33,6 +34,12 @@ COMMANDS = (
 )
 """All subcommands, in the order of the help. A module is imported only when its command is asked for."""
 
+_FOR_SHOPS = ("labels", "check", "read")
+"""The commands that speak the language of the machine. The others serve programs and administrators."""
+
+# argparse has no better way to translate its errors than that of gettext, which needs compiled files.
+setattr(argparse, "_", translated)
+
 _ABOUT = "Make labels, check numbers and read pictures: GS1 barcodes for a shop"
 _AFTER = "noriladle COMMAND --help prints the options of a command and an example."
 
@@ -43,26 +50,26 @@ class Parser(argparse.ArgumentParser):
     def __init__(self, prog: str, about: str, after: str = "", commands: Sequence[Command] = ()) -> None:
         super().__init__(prog, description=about, epilog=after, allow_abbrev=False, add_help=False)
         self.commands = commands
-        self.add_argument("-h", "--help", action="help", help="Print help")
+        self.add_argument("-h", "--help", action="help", help=translated("Print help"))
 
     def format_help(self) -> str:
         """What the command is for, its usage, arguments and options, and the rest of its text."""
         words, options = self._get_positional_actions(), self._get_optional_actions()
-        usage = [self.prog, "COMMAND .."] if self.commands else [self.prog, "[OPTIONS]", *map(_shown, words)]
-        blocks = [self.description or "", f"Usage: {' '.join(usage)}"]
+        rest = ["COMMAND .."] if self.commands else [translated("[OPTIONS]"), *map(_shown, words)]
+        blocks = [self.description or "", f"{translated('Usage')}: {' '.join([self.prog, *rest])}"]
         for heading, pairs in (("Commands", [(command.name, command.help) for command in self.commands]),
-                               ("Arguments", [(_shown(action), action.help or "") for action in words]),
-                               ("Options", [(_names(action), action.help or "") for action in options])):
+                               ("Arguments", [(_shown(action), translated(action.help or "")) for action in words]),
+                               ("Options", [(_names(action), translated(action.help or "")) for action in options])):
             if pairs:
-                blocks.append("\n".join([f"{heading}:", *_columns(pairs)]))
+                blocks.append("\n".join([f"{translated(heading)}:", *_columns(pairs)]))
         return "\n\n".join(filter(None, [*blocks, (self.epilog or "").strip()])) + "\n"
 
     def error(self, message: str) -> NoReturn:
         """Reports what is wrong with the arguments, with the option that was probably meant, and ends."""
         known = [name for action in self._actions for name in action.option_strings]
-        wrong = re.search(r"unrecognized arguments: (--?[\w-]+)", message)
+        wrong = re.match(translated("unrecognized arguments: %s") % r"(--?[\w-]+)", message)
         meant = _meant(wrong[1], known) if wrong else ""
-        self.exit(WRONG_WORDS, f"{self.prog}: {message}{meant}; see {self.prog} --help\n")
+        self.exit(WRONG_WORDS, f"{translated('{0}: {1}; see {0} --help', self.prog, message + meant)}\n")
 
 
 def _meant(word: str, known: Sequence[str]) -> str:
@@ -70,7 +77,7 @@ def _meant(word: str, known: Sequence[str]) -> str:
     import difflib  # Only used here.
 
     near = difflib.get_close_matches(word, known, 1)
-    return f" (did you mean {near[0]}?)" if near else ""
+    return translated(" (did you mean {0}?)", near[0]) if near else ""
 
 
 def _shown(action: argparse.Action) -> str:
@@ -100,7 +107,7 @@ def parser_of(name: Optional[str] = None) -> Parser:
         return parser
     module = _module_of(name)
     about, _, after = (module.__doc__ or "").partition("\n")
-    parser = Parser(f"noriladle {name}", about.rstrip("."), after)
+    parser = Parser(f"noriladle {name}", translated(about.rstrip(".")), translated(after))
     module.add_arguments(parser)
     return parser
 
@@ -137,6 +144,7 @@ def _run(words: List[str]) -> int:
         sys.stderr.write(parser_of().format_help())
         return WRONG_WORDS
     names = [command.name for command in COMMANDS]
+    speak(machine_language() if words[0] in _FOR_SHOPS else "en")
     if words[0] in names:
         status: int = _module_of(words[0]).run(parser_of(words[0]).parse_args(words[1:]))
         return status

@@ -7,6 +7,7 @@ from typing import Dict, Iterable, List, NamedTuple, Optional
 
 from ._prices import PriceHeading
 from ._shop import decimal_sign, file_of, said
+from ._texts import short
 
 _DECIMALS: Dict[str, int] = {}
 """How many decimals a currency has, by each of its signs."""
@@ -58,19 +59,19 @@ class Amounts:
         """
         price = _written(cell)
         if not price or re.match("0[0-9]", price.whole):
-            raise ValueError(said("noAmount", _short(cell)))
+            raise ValueError(said("noAmount", short(cell)))
         if price.is_below:
-            raise ValueError(said("belowZero", _short(cell)))
+            raise ValueError(said("belowZero", short(cell)))
         price = self._in_full(self._of_cents(price, cell) if self._is_cents else price, cell)
         if not self._is_free and not re.search("[1-9]", price.whole + price.fraction):
-            raise ValueError(f"{said('zeroPrice', _short(cell))} (--free)")
+            raise ValueError(f"{said('zeroPrice', short(cell))} (--free)")
         decimals = f"{price.point}{price.fraction or price.dash}" if price.fraction or price.dash else ""
         return f"{price.before}{price.whole}{decimals}{price.after}"
 
     def _of_cents(self, price: _Written, cell: str) -> _Written:
         """The price in money of a whole number of cents."""
         if price.group or price.fraction or price.dash or price.currency:
-            raise ValueError(said("notCents", _short(cell)))
+            raise ValueError(said("notCents", short(cell)))
         digits = price.whole.zfill(3)
         return price._replace(whole=digits[:-2], point=self.point or decimal_sign(), fraction=digits[-2:])
 
@@ -87,7 +88,7 @@ class Amounts:
             price = self._grouped(price, cell, decimals)
         fraction = price.fraction[:decimals].ljust(decimals, "0")
         if price.fraction[decimals:].strip("0"):
-            raise ValueError(said("decimalsOfPrice", _short(cell), decimals, _rounded(price, decimals)))
+            raise ValueError(said("decimalsOfPrice", short(cell), decimals, _rounded(price, decimals)))
         point = price.point or self.point or decimal_sign()
         if point == price.group:
             point = "," if point == "." else "."
@@ -100,7 +101,7 @@ class Amounts:
         """
         if decimals and self.point in ("", price.point):
             full = f"{price.whole}{price.fraction}{price.point}{'0' * decimals}"
-            raise ValueError(said("twoAmounts", _short(cell), full, f"{price.whole}{price.point}{price.fraction[:2]}"))
+            raise ValueError(said("twoAmounts", short(cell), full, f"{price.whole}{price.point}{price.fraction[:2]}"))
         whole = f"{price.whole}{price.point}{price.fraction}"
         return price._replace(whole=whole, group=price.point, point="", fraction="")
 
@@ -126,9 +127,3 @@ def _written(cell: str) -> Optional[_Written]:
     currency = (part["front"] or part["back"]).strip().casefold()
     return _Written(part["front"], part["whole"], part["group"], part["point"], part["fraction"], part["dash"],
                     part["back"] + part["each"], currency, any(part[name] for name in ("below", "minus", "debit")))
-
-
-def _short(text: str) -> str:
-    """A text as an error names it."""
-    plain = "".join(letter if letter.isprintable() else "?" for letter in text)
-    return plain if len(plain) <= 60 else f"{plain[:59]}…"

@@ -11,6 +11,7 @@ from ._files import opened_list
 from ._headings import LONGER, MEANINGS, Headings, known, plain
 from ._lists import SPREADSHEET, WHOLE_LINES, Fault, Faults, Record, Sheet
 from ._prices import PriceHeading, price_of, shelf_prices
+from ._remarks import remark_on
 from ._shop import said, sentence_of_lines, told
 from ._texts import Unreadable, looks_right, read_text
 
@@ -176,19 +177,23 @@ class _Look:
         note = self._note(places, headings) if is_found and (headings.cells or not is_lines) else ""
         if self.titles:
             note = told("tookLine", self.first.line)
-        is_asked = "price" not in places and "price" not in self.none
-        price = places.get("price", ())
         numbers = [place for meaning in ("gtin", "gs1") for place in places.get(meaning, ())]
         wide, shortest = self._width(headings), self._shortest()
-        passed = [] if is_lines else [
-            record.line for record in records if self._has_no_number(record, numbers, wide, shortest)]
-        lines = {*passed}
+        passed = [] if is_lines else [it for it in records if self._has_no_number(it, numbers, wide, shortest)]
+        lines = {record.line for record in passed}
+        rest, unused = [it for it in records if it.line not in lines], self._unused(places, records, headings)
+        question = None
+        if "price" not in {*places, *self.none}:
+            question = headings.question(choice, self._amounts(self._free(places), records))
+        elif headings.cells and "price" not in {*self.asked, *self.named, *self.none}:
+            remark = remark_on(places["price"][0], headings, self.sheet.records[:self.titles], passed, rest, unused)
+            question = remark and headings.doubt(places.pop("price")[0], *remark)
+        price = places.get("price", ())
         return Table(
-            records=[record for record in records if record.line not in lines], places=places, faults=self.sheet.faults,
-            note=note, delimiter=self.sheet.delimiter, width=wide, shortest=shortest,
-            question=headings.question(choice, self._amounts(self._free(places), records)) if is_asked else None,
-            heading=price_of(headings.of(price[0])) if price else None, unused=self._unused(places, records, headings),
-            lost=self.sheet.lost, passed=passed, source=self.sheet.records)
+            records=rest, places=places, faults=self.sheet.faults, note=note, delimiter=self.sheet.delimiter, width=wide,
+            shortest=shortest, question=question, heading=price_of(headings.of(price[0])) if price else None,
+            unused=[headings.named(place) for place in unused], lost=self.sheet.lost, passed=sorted(lines),
+            source=self.sheet.records)
 
     def _has_no_number(self, record: Record, numbers: Sequence[int], wide: int, shortest: int) -> bool:
         """Whether a record is a category or a total: it has nothing like a number in its columns, nor one elsewhere,
@@ -263,15 +268,14 @@ class _Look:
         cells = {place: [it.cells[place].strip() for it in sample if place < len(it.cells)] for place in free}
         return [place for place, its in cells.items() if 2 * sum(bool(_PRICE.fullmatch(it)) for it in its) > len(its)]
 
-    def _unused(self, places: Mapping[str, Sequence[int]], records: Sequence[Record], headings: Headings) -> List[str]:
-        """The columns that are not used and have a heading or a cell, each by its heading or number."""
+    def _unused(self, places: Mapping[str, Sequence[int]], records: Sequence[Record], headings: Headings) -> List[int]:
+        """The columns that are not used and have a heading or a cell."""
         if self.sheet.delimiter == WHOLE_LINES:
             return []
         used = {place for found in places.values() for place in found}
         filled: Set[int] = {place for record in records for place, cell in enumerate(record.cells) if cell.strip()}
         wide = self._width(headings)
-        return [headings.named(place) for place in range(wide)
-                if place not in used and (place in filled or headings.of(place))]
+        return [place for place in range(wide) if place not in used and (place in filled or headings.of(place))]
 
     def _guess_name(self, places: Dict[str, List[int]], records: Sequence[Record]) -> None:
         """Adds the column of names, which has most letters."""

@@ -8,6 +8,7 @@ from typing import Dict, List, Sequence, Tuple
 from ._lists import Fault, Record
 from ._prices import CARTON, folded, price_of
 from ._shop import said, shared, told
+from ._texts import short
 
 _WORDS: Dict[str, List[str]] = shared("headings")
 """The headings of each meaning, in English, German, French, Spanish, Italian, Dutch and Polish, without accents, blanks
@@ -90,6 +91,14 @@ class Headings:
                 for place in columns))
         else:
             return Fault(self.line, told("by", said("nonePrice"), "--no-price"))
-        heading = self.of(columns[0])
-        answer = repr(heading) if heading and self.count(heading) == 1 else columns[0] + 1
-        return Fault(self.line, told("by", text, told("or", f"--column price={answer}", "--no-price")))
+        return self._asked(self.line, text, columns[0])
+
+    def doubt(self, price: int, line: int, cell: str) -> Fault:
+        """The question whether a column is the price, since a cell of the list may mean that it is not."""
+        return self._asked(line, said("notShelf", short(cell), self.named(price)), price)
+
+    def _asked(self, line: int, text: str, place: int) -> Fault:
+        """A question, with the options that answer it."""
+        heading = self.of(place)
+        answer = repr(heading) if heading and self.count(heading) == 1 else place + 1
+        return Fault(line, told("by", text, told("or", f"--column price={answer}", "--no-price")))

@@ -9,8 +9,8 @@ from typing import Any, Dict, FrozenSet, List, Mapping, NamedTuple, Optional, Se
 from ._shop import file_of
 
 _TABLE: Dict[str, Any] = file_of("prices")
-_MOST = 200
-"""A longer text is no heading."""
+_MOST, _MOST_TEXT = 200, 1_000
+"""A longer text is no heading, or no remark."""
 _LETTERS = str.maketrans(_TABLE["letters"])
 
 
@@ -36,18 +36,19 @@ def _pattern(words: str) -> str:
     return f"{'^' * (words[0] == '^')} {' '.join(parts)}(?= ){' $' * (words[-1] == '$')}"
 
 
-def _any(patterns: Sequence[str]) -> "re.Pattern[str]":
+def any_of(patterns: Sequence[str]) -> "re.Pattern[str]":
+    """What finds any of some patterns of the table in folded text."""
     return re.compile("|".join(map(_pattern, patterns)))
 
 
-_IGNORED, _PRICE, _OWN, _GROSS, _RECOMMENDED, _TAXES, _WITH, _WITHOUT, _CENTS = (_any(_TABLE[name]) for name in (
+_IGNORED, _PRICE, _OWN, _GROSS, _RECOMMENDED, _TAXES, _WITH, _WITHOUT, _CENTS = (any_of(_TABLE[name]) for name in (
     "ignored", "price", "own", "gross", "recommended", "taxes", "with", "without", "cents"))
-_SURE = _any([word for name in ("price", "own", "gross", "recommended", "taxes", "with", "cents", "neutral")
+_SURE = any_of([word for name in ("price", "own", "gross", "recommended", "taxes", "with", "cents", "neutral")
               for word in _TABLE[name]] + [word for words in _TABLE["marks"].values() for word in words])
-CARTON = _any(_TABLE["reasons"]["carton"])
+CARTON = any_of(_TABLE["reasons"]["carton"])
 """Words of a case, also in headings of numbers."""
-_REASONS = {name: _any(patterns) for name, patterns in _TABLE["reasons"].items()}
-_MARKS = {name: _any(patterns) for name, patterns in _TABLE["marks"].items()}
+_REASONS = {name: any_of(patterns) for name, patterns in _TABLE["reasons"].items()}
+_MARKS = {name: any_of(patterns) for name, patterns in _TABLE["marks"].items()}
 
 
 def folded(heading: str) -> str:
@@ -74,11 +75,24 @@ def price_of(heading: str) -> Optional[PriceHeading]:
     if len(heading) > _MOST or not _PRICE.search(text):
         return None
     is_taxed, tax = _tax(text)
-    reason = next((name for name, pattern in _REASONS.items() if name == tax or pattern.search(text)), "")
+    reason = _reason(text, tax)
     points = bool(_OWN.search(text)) + bool(_GROSS.search(text)) + 2 * is_taxed
     marks = frozenset(name for name, pattern in _MARKS.items() if pattern.search(text))
     is_sure = not _SURE.sub("", text).strip()
     return PriceHeading(reason, -1 if _RECOMMENDED.search(text) else points, marks, bool(_CENTS.search(text)), is_sure)
+
+
+def reason_of(text: str) -> str:
+    """Why the prices that a text speaks of are not those of the shelf; nothing if it does not say, or speaks of a total."""
+    words = _IGNORED.sub("", folded(text[:_MOST_TEXT]))
+    _, tax = _tax(words)
+    is_about = (tax == "net" or _PRICE.search(words)) and not _REASONS["total"].search(words)
+    return _reason(words, tax) if is_about else ""
+
+
+def _reason(text: str, tax: str) -> str:
+    """The first reason that a folded text gives, or that its words of tax give."""
+    return next((name for name, pattern in _REASONS.items() if name == tax or pattern.search(text)), "")
 
 
 def _tax(text: str) -> Tuple[bool, str]:

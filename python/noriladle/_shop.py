@@ -51,6 +51,15 @@ def told(name: str, *values: object) -> str:
     return sentence.format(*values)
 
 
+def translated(text: str, *values: object) -> str:
+    """An English text of the help, or of an error of options, in the language that is spoken, with these values in it."""
+    if _language == "de":
+        from ._german import TEXTS  # Imported only here, since it takes time.
+
+        text = TEXTS.get(text, text)
+    return text.format(*values) if values else text
+
+
 def counted(name: str, number: int, *values: object) -> str:
     """A sentence of the commands that begins with a number of things."""
     return told(name if number != 1 else f"{name}1", f"{number:,}", *values)

@@ -52,6 +52,12 @@ def stripped(text: str) -> str:
     return text.strip(_WHITE)
 
 
+def short(text: str) -> str:
+    """A text as an error names it."""
+    plain = "".join(letter if letter.isprintable() else "^" if letter == "\x1d" else "?" for letter in text)
+    return plain if len(plain) <= 60 else f"{plain[:59]}…"
+
+
 def is_elements(text: str) -> bool:
     """Whether a text is an element string: it has parentheses around its first Application Identifier, or a separator."""
     return text[:1] in _BRACKETED or "^" in text or "\x1d" in text

@@ -1,11 +1,14 @@
 """The command ``noriladle``: its table of subcommands, its help, and what it says of wrong words."""
+import argparse
 import os
+import re
 import subprocess
 import sys
+from pathlib import Path
 
 import pytest
 
-from noriladle import __version__
+from noriladle import __version__, _german
 from noriladle import __main__ as command
 from noriladle.__main__ import COMMANDS, main, parser_of
 from noriladle.commands import WrongWords
@@ -103,6 +106,46 @@ def test_it_starts_soon():
         after = os.times()
         return after.children_user + after.children_system - before.children_user - before.children_system
     assert min(start() for _ in range(5)) < 0.15
+
+
+SHOPS = ("labels", "check", "read")
+
+
+def test_shops_get_german_help_and_the_services_english(capsys, monkeypatch):
+    english = {it.name: told([it.name, "--help"], capsys)[1] for it in COMMANDS}
+    monkeypatch.setenv("LC_ALL", "de_DE.UTF-8")
+    for it in COMMANDS:
+        status, out, err = told([it.name, "--help"], capsys)
+        assert (status, err, out == english[it.name]) == (0, "", it.name not in SHOPS)
+        if it.name in SHOPS:
+            assert {*out.splitlines()} & {*english[it.name].splitlines()} == {""}
+
+
+@pytest.mark.parametrize("words, said", [
+    (["labels", "--stoks"], "noriladle labels: unbekannte Option: --stoks (gemeint ist wohl --stocks?); Hilfe zeigt noriladle labels --help"),
+    (["read"], "noriladle read: hier fehlt noch: PICTURE; Hilfe zeigt noriladle read --help"),
+    (["labels", "--start", "x"], "noriladle labels: Option --start: 'x' ist keine ganze Zahl; Hilfe zeigt noriladle labels --help"),
+    (["labels", "--module", "x"], "noriladle labels: Option --module: 'x' ist keine Länge in mm; Hilfe zeigt noriladle labels --help"),
+    (["check", "--year", "1"], "noriladle check: Option --year: '1' ist kein Jahr von 1951 bis 2149; Hilfe zeigt noriladle check --help"),
+    (["check", "--encoding", "x"], "noriladle check: Option --encoding: 'x' gibt es nicht, nur utf-8, utf-16, cp1252, cp1250, cp850, mac_roman; "
+     "Hilfe zeigt noriladle check --help"),
+    (["check", "--fix"], "noriladle: --fix und -o FILE gehören zusammen: bitte beides schreiben, etwa --fix -o neu.csv"),
+    (["labels", "-o", "x.doc"], "noriladle: x.doc: das Ende des Namens sagt kein Format: bitte .pdf, .svg, .png, .zpl, .epl, .tspl schreiben, "
+     "oder --to FORM"),
+    (["till", "--x"], "noriladle till: the following arguments are required: LANE; see noriladle till --help"),
+])
+def test_option_errors_in_german(words, said, capsys, monkeypatch):
+    monkeypatch.setenv("LC_ALL", "de_DE.UTF-8")
+    assert told(words, capsys) == (2, "", f"{said}\n")
+
+
+def test_no_german_text_is_left_over():
+    """Each is the German of a text that stands in a source, or in argparse."""
+    sources = [Path(argparse.__file__)] + [path for path in Path(command.__file__).parent.rglob("*.py") if path.name != "_german.py"]
+    written = " ".join(re.sub('"\n *"', "", path.read_text("utf-8")) for path in sources)
+    for text in _german.TEXTS:
+        plain = text.strip("\n")
+        assert plain in written or plain.replace("'", "\\'") in written, text
 
 
 def test_all_options_are_explained():

@@ -53,6 +53,21 @@ def test_a_question(headings, said):
     assert found(headings).startswith(said)
 
 
+@pytest.mark.parametrize("text, said", [
+    ("Alle Preise zzgl. MwSt.;;\nEAN;Name;Preis\nG;N;2,99", (1, "'Alle Preise zzgl. MwSt.' may mean that 'Preis' is not the price on the shelf: say "
+     "which it is, or that the labels have none, as in --column price='Preis', or --no-price")),
+    ("EAN;Name;Preis\n;;netto\nG;N;2,99", (2, "'netto' may mean that 'Preis'")), ("EAN;Name;Preis;ME\nG;N;2,99;Karton", (2, "'ME: Karton' may")),
+    ("EAN;Name;Preis;PE\nG;N;2,99;100", (2, "'PE: 100' may")), ("EAN;Name;Preis;Währung\nG;N;2,99;EUR\n;x;;\nH;N;3,99;CHF", (4, "'Währung: CHF' may")),
+    ("EAN;Name;Preis\nG;N;2,99\nSumme netto;;", None), ("EAN;Name;Preis;PE\nG;N;2,99;1 St", None), ("EAN;Name;Preis;ME\nG;N;2,99;500 g", None),
+])
+def test_a_remark(text, said):
+    data = text.replace("G;", f"{OATS};").replace("H;", f"{RYE};").encode()
+    question = table_of(data, 2026).question
+    assert (said is None) == (question is None)
+    assert said is None or question.line == said[0] and question.said.startswith(said[1])
+    assert table_of(data, 2026, {"price": "Preis"}).question is table_of(data, 2026, {"price": ""}).question is None
+
+
 def test_an_empty_column_is_no_price():
     assert found("Preis;UVP", ["2,99", ""]) == "Preis"
     assert found("Preis;VK", ["2,99", " "]) == "Preis"

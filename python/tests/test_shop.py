@@ -47,17 +47,19 @@ def test_check(folder, capsys):
         "3\t96385075\trefused 3 CheckDigit\ta digit is wrong; if it is the last one, 96385074 is right",
         "4\t(10)A\t(10)A", "5\t]C110A\t]C1 (10)A", "6\t^10A^17261231\t(10)A(17)261231",
         "7\t(10)A)\trefused\tparentheses stand around Application Identifiers alone, as in (01)09501101530003(10)AB; if a value has some, "
-        "write [01]09501101530003[10]A(B)"], [])
+        "write [01]09501101530003[10]A(B)"], ["a: 2 of 6 lines refused"])
     assert told(["check", "a", "--refused"], capsys)[1] == told(["check", "a"], capsys)[1][1:2] + told(["check", "a"], capsys)[1][5:]
 
 
 def test_check_of_a_list(folder, capsys):
     save("a.csv", "Artikelnummer;Bezeichnung\n4012345010008;Haferkekse\n4012345010375;Brot\n\"x\"y\n")
     status, out, err = told(["check", "a.csv"], capsys)
-    assert status == 1 and err == ["a.csv: took 'Artikelnummer' for the gtin, 'Bezeichnung' for the name; if that is wrong, say it by --column"]
+    assert status == 1 and err == ["a.csv: took 'Artikelnummer' for the gtin, 'Bezeichnung' for the name; if that is wrong, say it by --column",
+                                   "a.csv: 2 of 3 lines refused"]
     assert out[:2] == ["2\t4012345010008\t(01)04012345010008",
-                       "3\t4012345010375\trefused 3 CheckDigit\ta digit is wrong; if it is the last one, 4012345010374 is right"]
+                       "3\t4012345010375\trefused 3 CheckDigit\ta digit is wrong; if it is the last one, 4012345010374 is right\tBrot"]
     assert out[2].startswith("4\t\trefused\tthis line is not CSV")
+    assert [json.loads(line).get("article") for line in told(["check", "a.csv", "--json"], capsys)[1]] == ["Haferkekse", "Brot", None]
 
 
 def test_check_as_json(folder, capsys):
@@ -74,7 +76,7 @@ def test_check_as_json(folder, capsys):
 
 def test_check_of_standard_input(folder, capsys, monkeypatch):
     monkeypatch.setattr("sys.stdin", io.TextIOWrapper(io.BytesIO(b"96385074\n")))
-    assert told(["check"], capsys) == (0, ["1\t96385074\t(01)00000096385074"], [])
+    assert told(["check"], capsys) == (0, ["1\t96385074\t(01)00000096385074"], ["standard input: 1 line, and it is right"])
 
 
 @pytest.mark.parametrize("command", [["check"], ["labels", "-o", "a.pdf"]])
@@ -232,7 +234,7 @@ def test_a_list_is_corrected(folder, capsys):
     save("a.csv", "Preisliste;\nEAN;Name\n" + "".join(f"{cell};x\n" for cell in cells) + "Summe;\n")
     status, out, err = told(["check", "a.csv", "--fix", "-o", "b.csv"], capsys)
     assert (status, out) == (1, [])
-    assert err[-2:] == ["a.csv:12: refused 3 CheckDigit: a digit is wrong; if it is the last one, 4012345010374 is right", "8 lines corrected in b.csv"]
+    assert err[-2:] == ["a.csv:12: 4012345010375 (x): refused 3 CheckDigit: a digit is wrong; if it is the last one, 4012345010374 is right", "8 lines corrected in b.csv"]
     assert "a.csv:6: '4,012345010008E+12' is 4012345010008" in err and "a.csv: 1 line without a number is passed over: 13" in err
     with open("b.csv", encoding="utf-8-sig") as file:
         rows = [line.split(";")[0] for line in file.read().splitlines()]
@@ -264,7 +266,8 @@ def test_german_where_the_machine_speaks_it(folder, capsys, monkeypatch):
         "a.csv:3: 96385075: refused 3 CheckDigit: eine Ziffer ist falsch; falls es die letzte ist, ist 96385074 richtig"]
     assert told(["labels", "a.csv", "-o", "a.pdf", "--no-price", "--leave-out"], capsys)[2][-2:] == [
         "a.csv: 1 Zeile weggelassen", "1 Etikett auf 1 Seite in a.pdf"]
-    assert told(["check", "a.csv"], capsys)[1][1].endswith("falls es die letzte ist, ist 96385074 richtig")
+    _, out, err = told(["check", "a.csv"], capsys)
+    assert out[1].endswith("falls es die letzte ist, ist 96385074 richtig\tKaugummi") and err == ["a.csv: 1 von 2 Zeilen abgelehnt"]
     save("b.png", b"no picture")
     assert told(["read", "b.png"], capsys)[2] == ["b.png: das ist kein Bild, das gelesen wird: JPEG, PNG, TIFF, PBM, PGM, PPM, BMP, GIF, WebP und PDF sind es"]
     monkeypatch.setenv("LC_ALL", "fr_FR.UTF-8")

@@ -191,6 +191,31 @@ def try_lists():
     print(f"lists: {answers['right']} right, {answers['asked']} asked, {answers['wrong']} wrong")
 
 
+# ---- what stands outside the heading of the price
+
+
+def try_remarks():
+    """Lists whose titles, further lines or other columns say what the prices are, and lists that only look so."""
+    answers = {"right": 0, "wrong": 0}
+    path = os.path.join(WORK, "list.csv")
+    with open(os.path.join(LISTS, "remarks.csv"), encoding="utf-8", newline="") as file:
+        rows = list(csv.DictReader(file))
+    for row in rows:
+        with open(path, "w", encoding="utf-8") as file:
+            file.write(row["list"].replace("|", "\n") + "\n")
+        done = labels_of(path, WORK)
+        wanted = cents_in_cell(row["is"], "," if "," in row["is"] else ".") if row["is"] != "ask" else None
+        prices = [label.prices("Haferkekse") for label in done.labels if label.number == GTIN]
+        if wanted is None:
+            is_right = done.status == 1 and not done.labels and any("--no-price" in line for line in done.said)
+        else:
+            is_right = done.status == 0 and prices == [[wanted]]
+        answers["right" if is_right else "wrong"] += 1
+        if not is_right:
+            told("remark", row["list"], f"it must be {row['is']}", done)
+    print(f"remarks: {answers['right']} right, {answers['wrong']} wrong")
+
+
 # ---- mistakes in numbers
 
 
@@ -361,6 +386,7 @@ def try_encodings():
 def main():
     try_headings()
     try_lists()
+    try_remarks()
     try_mistakes()
     try_answers()
     try_encodings()

@@ -7,7 +7,7 @@ const page = process.env.PAGE ?? path.join(__dirname, "../../page");
 
 // The one thing of a browser that these scripts make when they are loaded.
 globalThis.document = { createElement: () => ({ getContext: () => null }) };
-for (const name of "gs1.module gs1 ais values shop ui core fonts stock encodings lists openfile archives numbers spreadsheets xlsx ods mending typed prices columns symbol amounts articles".split(" ")) {
+for (const name of "gs1.module gs1 ais values shop ui core fonts stock encodings lists openfile archives numbers spreadsheets xlsx ods mending typed prices amounts remarks columns symbol articles".split(" ")) {
   vm.runInThisContext(fs.readFileSync(path.join(page, `${name}.js`), "utf8"), name);
 }
 

@@ -15,8 +15,8 @@ from browser import Browser
 ROOT = os.path.dirname(os.path.dirname(os.path.dirname(os.path.abspath(__file__))))
 sys.path[:0] = [os.path.join(ROOT, "python"), os.path.join(ROOT, "tests", "pictures")]
 from noriladle import picture
+from library import lines_of
 from other_readers import OTHERS
-from compare_readers import lines_of
 
 READERS = ("page", *OTHERS)
 ALL_READ = ("mild photograph", "upright, turned by 90 degrees", "upright, turned by 270 degrees", "1.2 dots a module")

@@ -4,6 +4,7 @@ Usage: same_lists.py COUNT. Makes this many lists, most of them damaged, takes t
 damages, asks both, and prints what differs. Its last line is the counts.
 """
 import base64
+import csv
 import glob
 import json
 import os
@@ -73,6 +74,9 @@ def of_shops():
     for path in sorted(glob.glob(f"{LISTS}/lists/*") + glob.glob(f"{LISTS}/saved/ways/*.csv")):
         with open(path, "rb") as file:
             yield file.read()
+    with open(f"{LISTS}/remarks.csv", encoding="utf-8", newline="") as file:
+        for row in csv.DictReader(file):
+            yield row["list"].replace("|", "\n").encode()
     for number in range(1_000):
         yield damaged(92, number).saved()
 

@@ -16,7 +16,7 @@ from pathlib import Path
 from typing import Any, Dict, List, Sequence, Tuple
 
 from .. import Answer
-from .._shop import machine_language, speak
+from .._shop import translated
 
 RIGHT, REFUSED, WRONG_WORDS = 0, 1, 2
 """The exit statuses: all is well; something was refused, not found or not written; the arguments are wrong, or name a
@@ -25,11 +25,6 @@ file that cannot be read."""
 
 class WrongWords(Exception):
     """What is wrong with the arguments, in one line that says what to do. The command ends with status 2."""
-
-
-def speak_as_machine() -> None:
-    """Speaks the language of the machine from now on, if it is known."""
-    speak(machine_language())
 
 
 def tell(said: str) -> None:
@@ -51,7 +46,7 @@ def add_ais(parser: argparse.ArgumentParser) -> None:
 
 def _year(word: str) -> int:
     if not (word.isascii() and word.isdecimal() and 1951 <= int(word) <= 2149):
-        raise argparse.ArgumentTypeError(f"{word!r} is no year from 1951 to 2149")
+        raise argparse.ArgumentTypeError(translated("{0!r} is no year from 1951 to 2149", word))
     return int(word)
 
 

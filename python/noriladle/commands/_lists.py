@@ -8,7 +8,7 @@ from typing import Dict
 from .._encodings import NAMES, encoding_of
 from .._headings import MEANINGS
 from .._lists import LIMIT
-from .._shop import told
+from .._shop import told, translated
 from . import WrongWords, tell
 
 
@@ -16,15 +16,15 @@ def add_list(parser: argparse.ArgumentParser) -> None:
     """Adds the list, and the option that says what a column of it is."""
     parser.add_argument("list", nargs="?", default="-", metavar="LIST", help="The list; standard input if left out or -")
     parser.add_argument("--column", action="append", default=[], metavar="NAME=HEADING",
-                        help=f"Column of the {', '.join(MEANINGS[:-1])} or {MEANINGS[-1]}, by its heading or number")
+                        help=translated("Column of the {0} or {1}, by its heading or number", ", ".join(MEANINGS[:-1]), MEANINGS[-1]))
     parser.add_argument("--encoding", type=_encoding, metavar="NAME",
-                        help=f"Encoding of the list, if it cannot be found: {', '.join(NAMES)}")
+                        help=translated("Encoding of the list, if it cannot be found: {0}", ", ".join(NAMES)))
 
 
 def _encoding(word: str) -> str:
     name = encoding_of(word)
     if not name:
-        raise argparse.ArgumentTypeError(f"{word!r} is none of {', '.join(NAMES)}")
+        raise argparse.ArgumentTypeError(translated("{0!r} is none of {1}", word, ", ".join(NAMES)))
     return name
 
 
@@ -43,14 +43,14 @@ def columns_of(words: argparse.Namespace) -> Dict[str, str]:
     for word in words.column:
         meaning, _, heading = (part.strip() for part in word.partition("="))
         if meaning not in MEANINGS or not heading:
-            raise WrongWords(f"--column {word}: write one of {', '.join(MEANINGS)}, = and a heading, as in "
-                             "--column name=Bezeichnung")
+            raise WrongWords(translated("--column {0}: write one of {1}, = and a heading, as in --column name=Bezeichnung",
+                                        word, ", ".join(MEANINGS)))
         if columns.get(meaning, heading) != heading:
-            raise WrongWords(f"--column {word}: the {meaning} is already '{columns[meaning]}'")
+            raise WrongWords(translated("--column {0}: the {1} is already '{2}'", word, meaning, columns[meaning]))
         columns[meaning] = heading
     if getattr(words, "no_price", False):
         if "price" in columns:
-            raise WrongWords("--no-price and --column price do not go together: leave one out")
+            raise WrongWords(translated("--no-price and --column price do not go together: leave one out"))
         columns["price"] = ""
     return columns
 

@@ -2,9 +2,10 @@
 
 LIST is a CSV file with a heading or without, or has one text a line. A text is a GTIN, an element string as printed,
 (01)09501101530003(17)261231, or with ^ for the separator, ^10AB^17261231, or what a scanner sends, ]C110AB. Prints for
-each its line's number, the text, and what it says, or why it is refused and what to do, with tabs between. The status is
-1 if a line is refused. --fix writes the list with the numbers that are clearly meant in place of ="4012345010008",
-4.012345010008E+12, EAN: 4012345010008, an ISBN of ten digits, or a number without its zeros in front.
+each its line's number, the text, and what it says, or why it is refused, what to do, and the name of the article, with
+tabs between. The last line is a sum, and the status is 1 if a line is refused. --fix writes the list with the numbers
+that are clearly meant in place of ="4012345010008", 4.012345010008E+12, EAN: 4012345010008, an ISBN of ten digits, or a
+number without its zeros in front.
 
   $ noriladle check supplier.csv
   $ noriladle check supplier.csv --fix -o fixed.csv
@@ -20,10 +21,10 @@ from typing import Any, Dict, Iterator, NamedTuple, Optional, Tuple
 from .. import Ais, Answer, Refusal
 from .._columns import Table, table_of
 from .._lists import Faults, Record
-from .._texts import Unreadable, is_elements, read_text, remedy_of, stripped
-from .._shop import counted, told
+from .._texts import Unreadable, is_elements, read_text, remedy_of, short, stripped
+from .._shop import counted, told, translated
 from .._fixing import csv_of, fixed
-from . import REFUSED, RIGHT, Progress, WrongWords, add_ais, add_year, data_of, speak_as_machine, tell, write_files
+from . import REFUSED, RIGHT, Progress, WrongWords, add_ais, add_year, data_of, tell, write_files
 from ._lists import add_list, columns_of, name_of, read_list
 
 
@@ -47,13 +48,14 @@ class Checked(NamedTuple):
     answer: Optional[Answer]
     refusal: Optional[Refusal] = None
     remedy: str = ""
+    article: str = ""
+    """The article's name, if the list has one."""
 
 
 def run(words: argparse.Namespace) -> int:
     """Prints what each line of the list says."""
-    speak_as_machine()
     if words.fix != bool(words.output):
-        raise WrongWords("--fix and -o FILE go together: write both, as in --fix -o fixed.csv")
+        raise WrongWords(translated("--fix and -o FILE go together: write both, as in --fix -o fixed.csv"))
     name = name_of(words)
     try:
         table = table_of(read_list(words), words.year, columns_of(words), words.encoding or "")
@@ -65,16 +67,17 @@ def run(words: argparse.Namespace) -> int:
         tell(f"{name}: {note}")
     if words.fix:
         return _fix(table, name, words)
-    status, progress = RIGHT, Progress()
+    progress, count, refused = Progress(), 0, 0
     for checked in checked_lines(table, words.year, words.ais):
         if not sys.stdout.isatty():
             progress(told("checking", f"{checked.line:,}"))
-        if not checked.answer:
-            status = REFUSED
+        count, refused = count + 1, refused + (not checked.answer)
         if not (checked.answer and words.refused):
             sys.stdout.write(f"{json.dumps(_data(checked), ensure_ascii=False) if words.json else _row(checked)}\n")
     progress.end()
-    return status
+    sys.stdout.flush()
+    tell(f"{name}: {counted('refusedOf', refused, f'{count:,}') if refused else counted('allRight', count)}")
+    return REFUSED if refused else RIGHT
 
 
 def _fix(table: Table, name: str, words: argparse.Namespace) -> int:
@@ -88,7 +91,7 @@ def _fix(table: Table, name: str, words: argparse.Namespace) -> int:
         tell(f"{name}:{line}: {told('fixed', ' '.join(before.split()), after)}")
     refused = [checked for checked in checked_lines(list_of, words.year, words.ais) if not checked.answer]
     for checked in refused:
-        tell(f"{name}:{checked.line}: {checked.refusal or told('refusedLine')}: {checked.remedy}")
+        tell(f"{name}:{checked.line}: {_named(checked)}{checked.refusal or told('refusedLine')}: {checked.remedy}")
     text = csv_of(list_of)
     if words.output == "-":
         sys.stdout.write(text)
@@ -106,8 +109,9 @@ def checked_lines(table: Table, year: int, ais: Ais = "all") -> Iterator[Checked
         if line in faults:
             yield Checked(line, "", None, None, faults[line].said)
         else:
+            article = " ".join(table.cell(records[line], "name").split())
             for text in _texts(table, records[line]):
-                yield _checked(line, text, year, ais)
+                yield _checked(line, text, year, ais)._replace(article=article)
 
 
 def _texts(table: Table, record: Record) -> Iterator[str]:
@@ -134,11 +138,18 @@ def _row(checked: Checked) -> str:
     if checked.answer:
         identifier = checked.answer.identifier
         return f"{checked.line}\t{text}\t{f'{identifier} ' if identifier else ''}{checked.answer.text}"
-    return f"{checked.line}\t{text}\t{checked.refusal or 'refused'}\t{checked.remedy}"
+    article = f"\t{checked.article}" if checked.article else ""
+    return f"{checked.line}\t{text}\t{checked.refusal or 'refused'}\t{checked.remedy}{article}"
+
+
+def _named(checked: Checked) -> str:
+    """The text of a line and its article, as an error begins with them."""
+    shown = f"{short(checked.text)} ({checked.article})" if checked.article else short(checked.text)
+    return f"{shown}: " if checked.text else ""
 
 
 def _data(checked: Checked) -> Dict[str, Any]:
-    data: Dict[str, Any] = {"line": checked.line, "text": checked.text}
+    data: Dict[str, Any] = {"line": checked.line, "text": checked.text, **({"article": checked.article} if checked.article else {})}
     if checked.answer:
         return {**data, **data_of(checked.answer)}
     refusal = checked.refusal

@@ -16,8 +16,8 @@ import sys
 from pathlib import Path
 from typing import TYPE_CHECKING, Callable, Dict, List, Sequence, Tuple
 
-from .._shop import counted, said, told
-from . import REFUSED, RIGHT, Progress, WrongWords, add_year, speak_as_machine, tell, write_files
+from .._shop import counted, said, told, translated
+from . import REFUSED, RIGHT, Progress, WrongWords, add_year, tell, write_files
 from ._lists import add_list, add_price, columns_of, name_of, read_list
 
 if TYPE_CHECKING:
@@ -61,7 +61,7 @@ def _length(word: str) -> float:
     except ValueError:
         length = 0.0
     if not 0.05 <= length <= 500:
-        raise argparse.ArgumentTypeError(f"{word!r} is no length in mm")
+        raise argparse.ArgumentTypeError(translated("{0!r} is no length in mm", word))
     return length
 
 
@@ -71,13 +71,12 @@ def _shift(word: str) -> Tuple[float, float]:
     except ValueError:
         across = down = 1000.0
     if max(abs(across), abs(down)) > 20:
-        raise argparse.ArgumentTypeError(f"{word!r} is not two lengths of at most 20 mm, as 0.5,-1")
+        raise argparse.ArgumentTypeError(translated("{0!r} is not two lengths of at most 20 mm, as 0.5,-1", word))
     return across, down
 
 
 def run(words: argparse.Namespace) -> int:
     """Writes the labels of a list: all or none, unless faulty lines are left out."""
-    speak_as_machine()
     if words.stocks:
         from ..labels import KNOWN
         print("\n".join(f"{name}\t{text}" for name, text in KNOWN.items()))
@@ -145,11 +144,11 @@ def _form(words: argparse.Namespace) -> str:
     ending = Path(words.output).suffix[1:].lower()
     form: str = words.to or ("pdf" if words.output == "-" else ending)
     if form not in FORMS:
-        raise WrongWords(f"{words.output}: the end of the name says no form: write .{', .'.join(FORMS)}, or --to FORM")
+        raise WrongWords(translated("{0}: the end of the name says no form: write .{1}, or --to FORM", words.output, ", .".join(FORMS)))
     if words.output == "-" and sys.stdout.isatty():
-        raise WrongWords(f"a terminal shows no {form.upper()}: write a file, as in -o labels.{form}")
+        raise WrongWords(translated("a terminal shows no {0}: write a file, as in -o labels.{1}", form.upper(), form))
     if words.output != "-" and not Path(words.output).parent.is_dir():
-        raise WrongWords(f"{words.output}: there is no folder {Path(words.output).parent}")
+        raise WrongWords(translated("{0}: there is no folder {1}", words.output, Path(words.output).parent))
     return form
 
 
@@ -168,7 +167,7 @@ def _files(made: Labels, form: str, words: argparse.Namespace) -> List[Tuple[Pat
     if len(pages) == 1:
         return [(path, pages[0])]
     if words.output == "-":
-        raise WrongWords(f"{len(pages)} pages are {len(pages)} files: write them, as in -o labels.{form}")
+        raise WrongWords(translated("{0} pages are {0} files: write them, as in -o labels.{1}", len(pages), form))
     wide = len(str(len(pages)))
     return [(path.with_name(f"{path.stem}-{number:0{wide}}{path.suffix}"), data) for number, data in enumerate(pages, 1)]
 

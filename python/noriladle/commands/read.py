@@ -22,7 +22,7 @@ from typing import TYPE_CHECKING, Any, Iterator, List, NamedTuple, Optional, Tup
 
 from .. import Refusal, Symbol
 from .._shop import said, told
-from . import REFUSED, RIGHT, WRONG_WORDS, Progress, add_ais, add_year, data_of, speak_as_machine, tell
+from . import REFUSED, RIGHT, WRONG_WORDS, Progress, add_ais, add_year, data_of, tell
 
 if TYPE_CHECKING:
     from PIL import Image
@@ -66,7 +66,6 @@ class Unopened(Exception):
 
 def run(words: argparse.Namespace) -> int:
     """Reads each picture, and prints a line for each barcode."""
-    speak_as_machine()
     from .. import picture  # Says what you must install, before it opens any file.
 
     # Pillow warns about damage that does not keep it from reading.

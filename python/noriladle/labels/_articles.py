@@ -11,7 +11,7 @@ from .._amounts import Amounts, price_like
 from .._columns import Table
 from .._lists import Fault, Record
 from .._shop import said
-from .._texts import Unreadable, digits_of, element_string, is_elements, looks_right, read_text, remedy_of, stripped
+from .._texts import Unreadable, digits_of, element_string, is_elements, looks_right, read_text, remedy_of, short, stripped
 
 _BY_LENGTH = {8: Kind.EAN8, 12: Kind.UPCA, 13: Kind.EAN13, 14: Kind.ITF14}
 """The kind of barcode for a GTIN of this many digits, if the list names no kind."""
@@ -133,11 +133,11 @@ class _Widths:
         behind = record.cells[self._place:self._place + 2] if self._place is not None else []
         may_be_split = self._table.delimiter == "," and (self._are_split or count > width)
         if len(behind) == 2 and may_be_split and _is_half(*behind):
-            raise ValueError(said("splitPrice", _short(_line(behind[0])), _short(_line(behind[1]))))
+            raise ValueError(said("splitPrice", short(_line(behind[0])), short(_line(behind[1]))))
         if len(behind) and self._table.delimiter == self._point and re.fullmatch("[0-9]{1,7}", behind[0].strip()):
             raise ValueError(said("wholePrice", behind[0].strip()))
         if beyond:
-            raise ValueError(said("beyond", _short(_line(beyond[0])), count, width))
+            raise ValueError(said("beyond", short(_line(beyond[0])), count, width))
         if count < self._table.shortest and (self._is_risky or self._place is not None and count <= self._place):
             raise ValueError(said("missingCell", count, self._table.shortest))
 
@@ -168,7 +168,7 @@ def _article(table: Table, record: Record, number: Tuple[Kind, str, Answer], amo
     lines = tuple(_line(record.cells[place]) for place in table.places.get("line", ()) if place < len(record.cells))
     name, price = _plain(table.cell(record, "name")), _line(table.cell(record, "price"))
     if price_like(name):
-        raise ValueError(said("nameIsPrice", _short(name)))
+        raise ValueError(said("nameIsPrice", short(name)))
     copies = _copies(table.cell(record, "copies").strip())
     shown = amounts.printed(price) if price else ""
     return Article(record.line, *number, name, shown, tuple(filter(None, lines)), copies)
@@ -185,17 +185,17 @@ def _symbol(text: str, kind: Optional[Kind], year: int) -> Tuple[Kind, str, Answ
     try:
         answer = read_text(asked, year)
     except Refusal as refusal:
-        raise ValueError(f"{_short(text)}: {refusal}: {remedy_of(text, refusal)}") from None
+        raise ValueError(f"{short(text)}: {refusal}: {remedy_of(text, refusal)}") from None
     except Unreadable as error:
-        raise ValueError(f"{_short(text)}: {error}") from None
+        raise ValueError(f"{short(text)}: {error}") from None
     if answer.identifier in ("]Q1", "]d1") or text.lower().startswith("http"):
-        raise ValueError(f"{_short(text)}: {said('link', answer.text)}")
+        raise ValueError(f"{short(text)}: {said('link', answer.text)}")
     usual = _usual_kind(asked, answer)
     chosen = kind or usual
     if chosen is Kind.GS1128:
         return chosen, _elements(asked, answer) if usual is Kind.GS1128 else f"01{answer.gtin}", answer
     if answer.gtin is None or len(answer.elements) > 1:
-        raise ValueError(f"{_short(text)}: {said('notAlone')}")
+        raise ValueError(f"{short(text)}: {said('notAlone')}")
     return chosen, answer.gtin, answer
 
 
@@ -214,25 +214,19 @@ def _elements(text: str, answer: Answer) -> str:
     return element_string(text if answer.identifier is None else text[3:]).strip("\x1d")
 
 
-def _short(text: str) -> str:
-    """A text as an error names it."""
-    plain = "".join(letter if letter.isprintable() else "^" if letter == "\x1d" else "?" for letter in text)
-    return plain if len(plain) <= 60 else f"{plain[:59]}…"
-
-
 def _kind(name: str) -> Optional[Kind]:
     """The kind of a name, such as ``ean13`` or ``EAN-13``; without a name the usual one."""
     kinds = {kind.name: kind for kind in Kind}
-    short = re.sub(r"[\s-]", "", name).upper()
-    if short and short not in kinds:
-        raise ValueError(said("noKind", _short(name), ", ".join(kinds).lower()))
-    return kinds.get(short)
+    plain = re.sub(r"[\s-]", "", name).upper()
+    if plain and plain not in kinds:
+        raise ValueError(said("noKind", short(name), ", ".join(kinds).lower()))
+    return kinds.get(plain)
 
 
 def _copies(cell: str) -> int:
     """How many labels a line gets."""
     if cell and not (re.fullmatch(r"[0-9]{1,4}", cell) and int(cell) <= MOST_COPIES):
-        raise ValueError(said("copies", _short(cell), f"{MOST_COPIES:,}"))
+        raise ValueError(said("copies", short(cell), f"{MOST_COPIES:,}"))
     return int(cell or 1)
 
 

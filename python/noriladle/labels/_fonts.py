@@ -10,6 +10,7 @@ from functools import lru_cache
 from pathlib import Path
 from typing import Dict, List, Mapping, NamedTuple, Optional, Sequence, Tuple
 
+from .._shop import translated
 from ._truetype import Metrics, NoFont, metrics_of
 
 _FOLDERS = ("/usr/share/fonts", "/usr/local/share/fonts", "~/.local/share/fonts", "~/.fonts", "/Library/Fonts", "C:/Windows/Fonts")
@@ -94,7 +95,7 @@ def fonts_of(regular: Optional[str] = None, bold: Optional[str] = None) -> Fonts
     try:
         return Fonts(_loaded(paths[0], False), _loaded(Path(bold) if bold else paths[1], True))
     except (NoFont, OSError) as error:
-        raise ValueError(f"this is no TrueType font: {error}") from error
+        raise ValueError(translated("this is no TrueType font: {0}", error)) from error
 
 
 def _found() -> List[Path]:

@@ -6,7 +6,7 @@ import re
 from dataclasses import dataclass
 from typing import Dict, Tuple
 
-from .._shop import shared
+from .._shop import shared, translated
 
 PAGES: Dict[str, Tuple[float, float]] = {name: (width, height) for name, (width, height) in shared("pages").items()}
 
@@ -78,17 +78,18 @@ def stock_of(name: str) -> Stock:
     told = _TEXT.fullmatch({known.lower(): text for known, text in KNOWN.items()}.get(short, short.replace("×", "x")))
     if told is None:
         near = difflib.get_close_matches(short.upper(), KNOWN, 3, 0.5)
-        meant = f" (did you mean {' or '.join(near)}?)" if near else ""
-        raise ValueError(f"there is no stock {name!r}{meant}: --stocks lists those that are known; else write its measures in mm, "
-                         "as 3x8:70x37 (a sheet of A4), 5x13:38.1x21.2+2.54+0 (with gaps) or 57x32 (a roll)")
+        meant = translated(" (did you mean {0}?)", translated(" or ").join(near)) if near else ""
+        raise ValueError(translated(
+            "there is no stock {0!r}{1}: --stocks lists those that are known; else write its measures in mm, "
+            "as 3x8:70x37 (a sheet of A4), 5x13:38.1x21.2+2.54+0 (with gaps) or 57x32 (a roll)", name, meant))
     columns, rows, width, height, gap_x, gap_y, page = told.groups()
     if page is not None and page not in PAGES:
-        raise ValueError(f"there is no page {page!r}: it is one of {', '.join(PAGES)}")
+        raise ValueError(translated("there is no page {0!r}: it is one of {1}", page, ", ".join(PAGES)))
     size = PAGES[page or "a4"] if columns else (float(width), float(height))
     gaps = float(gap_x or 0), float(gap_y or 0)
     stock = Stock(int(columns or 1), int(rows or 1), float(width), float(height), gaps, size)
     if not stock.cells or min(stock.width, stock.height) < _LEAST or max(stock.page) > _MOST:
-        raise ValueError(f"the stock {name!r} has no labels of {_LEAST:g} to {_MOST:g} mm")
+        raise ValueError(translated("the stock {0!r} has no labels of {1:g} to {2:g} mm", name, _LEAST, _MOST))
     if min(stock.margins) < -0.01:
-        raise ValueError(f"the labels of {name!r} are larger than their page of {size[0]:g} x {size[1]:g} mm")
+        raise ValueError(translated("the labels of {0!r} are larger than their page of {1:g} x {2:g} mm", name, *size))
     return stock

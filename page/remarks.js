@@ -1,0 +1,70 @@
+// @ts-check
+// Finds what a list says of its prices outside their heading: in titles, between its lines and in other columns, such as
+// "all prices without tax", or a column of units that says "carton". docs/LABELS.md has the rule. As
+// python/noriladle/_remarks.py.
+"use strict";
+
+/**
+ * A cell that may mean that the price is not that of the shelf, and its line.
+ * @typedef {{ line: number, cell: string }} Remark
+ */
+
+const REMARKS = { units: anyOf(PRICES.remarks.units), sizes: anyOf(PRICES.remarks.sizes),
+  measures: anyOf(PRICES.remarks.measures), currencies: anyOf(PRICES.remarks.currencies) };
+
+/**
+ * The first remark on the prices of a column: in the titles, in the lines without an article, or in the columns that are
+ * not used.
+ * @param {number} price
+ * @param {string[]} headings
+ * @param {{ titles: ListRecord[], passed: ListRecord[], records: ListRecord[] }} lines
+ * @param {number[]} unused
+ * @returns {Remark | undefined}
+ */
+function remarkOn(price, headings, { titles, passed, records }, unused) {
+  const between = passed.filter(({ cells }) => !cells.some((cell) => writtenPrice(trimmed(cell))?.point));
+  return remarksInLines(price, headings, [...titles, ...between])[0]
+    ?? unused.flatMap((place) => remarksInColumn(place, headings[place] ?? "", records))[0];
+}
+
+/**
+ * What lines without an article say. A cell in the column of the price goes on with its heading.
+ * @param {number} price
+ * @param {string[]} headings
+ * @param {ListRecord[]} records
+ * @returns {Remark[]}
+ */
+function remarksInLines(price, headings, records) {
+  const isOther = (/** @type {string} */ text) => PRICES.remarks.reasons.includes(reasonOf(text));
+  return records.map(({ line, cells }) => ({ line, cells: cells.map(oneBlank) }))
+    .filter(({ cells }) => cells.length !== headings.length || cells.some((cell, place) => cell !== headings[place]))
+    .flatMap(({ line, cells }) => cells.filter((cell, place) => cell
+      && (isOther(cell) || place === price && isOther(`${headings[price]} ${cell}`))).map((cell) => ({ line, cell })));
+}
+
+/**
+ * What a column says of the price beside it: of how much it is the price, or in which of several currencies.
+ * @param {number} place
+ * @param {string} heading
+ * @param {ListRecord[]} records
+ * @returns {Remark[]}
+ */
+function remarksInColumn(place, heading, records) {
+  const words = folded(heading), filled = records.map(({ line, cells }) => ({ line, cell: oneBlank(cells[place] ?? "") }))
+    .filter(({ cell }) => cell);
+  const isSize = has(REMARKS.sizes, words), isCurrency = has(REMARKS.currencies, words);
+  const found = has(REMARKS.units, words) ? filled.filter(({ cell }) => isOtherUnit(cell, isSize))
+    : isCurrency ? filled.filter(({ cell }) => cell.toUpperCase() !== filled[0].cell.toUpperCase()) : [];
+  return found.map(({ line, cell }) => ({ line, cell: `${heading}: ${cell}` }));
+}
+
+/**
+ * Whether a unit is another one than a piece: a measure or a case; and beside a price's unit a number above 1.
+ * @param {string} unit
+ * @param {boolean} isSize
+ */
+function isOtherUnit(unit, isSize) {
+  if (!isSize) return has(REMARKS.measures, folded(unit));
+  const [, number, rest] = unit.match(/^(0*1 |[0-9]+(?![0-9.,]))?(.*)$/s) ?? [];
+  return has(REMARKS.measures, folded(rest ?? "")) || number !== undefined && Number(number) !== 1;
+}
