@@ -219,6 +219,8 @@ class Look {
     const numbers = [...(places.gtin ?? []), ...(places.gs1 ?? [])], width = this.width(), shortest = this.shortest();
     const hasNone = (/** @type {ListRecord} */ record) => this.hasNoNumber(record, numbers, { width, shortest });
     const passed = new Set(this.isLines ? [] : records.filter(hasNone));
+    const other = [...passed].find((record) => this.isOtherHeading(record));
+    if (other) throw new Faults(faultAt(other.line, "otherHeading"));
     const rest = records.filter((record) => !passed.has(record)), unused = this.unused(places, records);
     const question = this.none.has("price") ? null : places.price
       ? this.doubt(places, { titles: this.sheet.records.slice(0, this.titles), passed: [...passed], records: rest },
@@ -229,6 +231,17 @@ class Look {
       titled: this.titles ? this.first.line : 0, question,
       heading: price === undefined || !this.hasHeading ? undefined : priceHeading(this.first.cells[price] ?? ""),
       unused: unused.map((place) => this.named(place)), passed: [...passed].map(({ line }) => line), look: this };
+  }
+
+  /**
+   * Whether a record is a heading, too, and another one: it has two words of this one, and not the same in all.
+   * @param {ListRecord} record
+   */
+  isOtherHeading(record) {
+    if (!this.hasHeading) return false;
+    const own = this.first.cells.map(plainHeading), other = record.cells.map(plainHeading);
+    const shared = new Set(own.filter((word) => word && other.includes(word)));
+    return shared.size > 1 && own.some((word, place) => place < other.length && word !== other[place]);
   }
 
   /**

@@ -180,6 +180,9 @@ class _Look:
         numbers = [place for meaning in ("gtin", "gs1") for place in places.get(meaning, ())]
         wide, shortest = self._width(headings), self._shortest()
         passed = [] if is_lines else [it for it in records if self._has_no_number(it, numbers, wide, shortest)]
+        others = [record.line for record in passed if headings.is_another(record)]
+        if others:
+            raise Faults([Fault(others[0], said("otherHeading"))])
         lines = {record.line for record in passed}
         rest, unused = [it for it in records if it.line not in lines], self._unused(places, records, headings)
         question = None

@@ -73,6 +73,12 @@ class Headings:
         """How many columns have this heading."""
         return [*map(plain, self.cells)].count(plain(heading))
 
+    def is_another(self, record: Record) -> bool:
+        """Whether a record is a heading, too, and another one: it has two words of this one, and not the same in all."""
+        own, other = ([plain(cell) for cell in cells] for cells in (self.cells, record.cells))
+        shared = {*own} & {*other} - {""}
+        return len(shared) > 1 and any(cell != other[place] for place, cell in enumerate(own) if place < len(other))
+
     def reasons(self) -> Dict[int, str]:
         """Why the prices of some columns are not those of the shelf."""
         prices = {place: price_of(cell) for place, cell in enumerate(self.cells)}
@@ -91,7 +97,7 @@ class Headings:
                 for place in columns))
         else:
             return Fault(self.line, told("by", said("nonePrice"), "--no-price"))
-        return self._asked(self.line, text, columns[0])
+        return self._asked(self.line, text, next((place for place in columns if place not in reasons), columns[0]))
 
     def doubt(self, price: int, line: int, cell: str) -> Fault:
         """The question whether a column is the price, since a cell of the list may mean that it is not."""

@@ -204,10 +204,12 @@ def try_remarks():
         with open(path, "w", encoding="utf-8") as file:
             file.write(row["list"].replace("|", "\n") + "\n")
         done = labels_of(path, WORK)
-        wanted = cents_in_cell(row["is"], "," if "," in row["is"] else ".") if row["is"] != "ask" else None
+        is_none = row["is"] in ("ask", "refuse")
+        wanted = None if is_none else cents_in_cell(row["is"], "," if "," in row["is"] else ".")
         prices = [label.prices("Haferkekse") for label in done.labels if label.number == GTIN]
-        if wanted is None:
-            is_right = done.status == 1 and not done.labels and any("--no-price" in line for line in done.said)
+        if is_none:
+            asks = any("--no-price" in line for line in done.said)
+            is_right = done.status == 1 and not done.labels and asks == (row["is"] == "ask")
         else:
             is_right = done.status == 0 and prices == [[wanted]]
         answers["right" if is_right else "wrong"] += 1
