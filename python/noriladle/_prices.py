@@ -82,6 +82,7 @@ def price_of(heading: str) -> Optional[PriceHeading]:
     return PriceHeading(reason, -1 if _RECOMMENDED.search(text) else points, marks, bool(_CENTS.search(text)), is_sure)
 
 
+@lru_cache(maxsize=4096)
 def reason_of(text: str) -> str:
     """Why the prices that a text speaks of are not those of the shelf; nothing if it does not say, or speaks of a total."""
     words = _IGNORED.sub("", folded(text[:_MOST_TEXT]))

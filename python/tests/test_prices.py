@@ -29,7 +29,7 @@ def found(headings, cells=None):
     ("Prijs excl. btw;Prijs incl. btw", "Prijs incl. btw"), ("Preis je Karton;Preis je Stueck", "Preis je Stueck"),
     ("Regular price;Sale price", "Regular price"), ("Was;Now", "Now"), ("Brutto-VK;Netto-VK", "Brutto-VK"),
     ("Preis inkl. 19 % MwSt.;Preis ohne MwSt.", "Preis inkl. 19 % MwSt."), ("Preis ohne Pfand;Pfand", "Preis ohne Pfand"),
-    ("P.V.P.;Precio de coste", "P.V.P."), ("Preis;Preis CHF", "Preis"), ("regularPrice;salePrice", "regularPrice"),
+    ("P.V.P.;Precio de coste", "P.V.P."), ("VK;Preis inkl. MwSt.", "Preis inkl. MwSt."), ("Preis;Preis CHF", "Preis"), ("regularPrice;salePrice", "regularPrice"),
     ("Cena zakupu;Cena brutto", "Cena brutto"), ("Preis;UVP;EK", "Preis"), ("Inköpspris;Försäljningspris", "Försäljningspris"),
     ("Preis USt;Preis", "Preis"), ("Prix sans TVA;Prix", "Prix"),
     ("Preço de custo;Preço de venda", "Preço de venda"), ("Nákupní cena;Cena s DPH", "Cena s DPH"), ("Kostpris;Salgspris", "Salgspris"),

@@ -62,6 +62,11 @@ def test_check_of_a_list(folder, capsys):
     assert [json.loads(line).get("article") for line in told(["check", "a.csv", "--json"], capsys)[1]] == ["Haferkekse", "Brot", None]
 
 
+def test_check_of_a_list_without_numbers_has_no_sum(folder, capsys):
+    save("a.csv", "EAN;Name\n;Getränke\n")
+    assert told(["check", "a.csv"], capsys) == (0, [], ["a.csv: 1 line without a number is passed over: 2"])
+
+
 def test_check_as_json(folder, capsys):
     save("a", "]C110A\x1d17261231\n96385075\n(10)A)\n")
     status, out, _ = told(["check", "a", "--json"], capsys)

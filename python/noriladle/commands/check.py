@@ -76,7 +76,8 @@ def run(words: argparse.Namespace) -> int:
             sys.stdout.write(f"{json.dumps(_data(checked), ensure_ascii=False) if words.json else _row(checked)}\n")
     progress.end()
     sys.stdout.flush()
-    tell(f"{name}: {counted('refusedOf', refused, f'{count:,}') if refused else counted('allRight', count)}")
+    if count:
+        tell(f"{name}: {counted('refusedOf', refused, f'{count:,}') if refused else counted('allRight', count)}")
     return REFUSED if refused else RIGHT
 
 
