@@ -19,7 +19,8 @@ const plainLine = (cell) => plainText(cell).replaceAll("\n", " ");
 // A text as an error names it.
 function shortText(text) {
   const plain = text.replace(/[\p{C}\p{Z}]/gu, (sign) => sign === " " ? sign : sign === "\x1d" ? "^" : "?");
-  return plain.length <= 60 ? plain : `${Array.from(plain).slice(0, 59).join("")}…`;
+  const signs = Array.from(plain);
+  return signs.length <= 60 ? plain : `${signs.slice(0, 59).join("")}…`;
 }
 
 // What a person reads about a line: its text, the module's error, and the fault.
