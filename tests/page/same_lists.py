@@ -76,7 +76,8 @@ def of_shops():
             yield file.read()
     with open(f"{LISTS}/remarks.csv", encoding="utf-8", newline="") as file:
         for row in csv.DictReader(file):
-            yield row["list"].replace("|", "\n").encode()
+            text = row["list"].replace("|", "\n")
+            yield from (text.encode(), text.encode("utf-16-be"), b"\xfe\xff" + text.encode("utf-16-be"))
     for number in range(1_000):
         yield damaged(92, number).saved()
 
