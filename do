@@ -5,7 +5,7 @@ self=$(readlink -f "${BASH_SOURCE[0]}")
 cd "$(dirname "$self")"
 
 build() {
-    ./gs1_hub --version "$@"
+    package/program --version "$@"
     python/build
     page/build
 }

@@ -5,29 +5,16 @@ the files of the clone, and beside them what python/build makes. The clone is on
 """
 from __future__ import annotations
 
-import gzip
 import hashlib
 import json
 import os
 import platform
-import shutil
-import subprocess
 import sys
-import tempfile
-import zlib
 from pathlib import Path
-from typing import Any, Callable, Dict, Iterator, List, NoReturn, Sequence
+from typing import Any, Dict, List, NoReturn, Sequence
 
 ROOT = Path(__file__).resolve().parent.parent
-RELEASE = ROOT / "release"
 MODULE = ROOT / "python" / "noriladle"
-INPUTS = ("crates.txt", "crates", "embed/archive", "embed/exports", "embed/gs1.c", "package/aarch64")
-"""What the library is built from; package/stamp has the same names."""
-LEFT_OUT = ("out", "must-fail", "README.md")
-BUILT = ("libgs1.so", "remedies.json", "shop", "page", "__pycache__", ".gitignore")
-"""What stands beside the module's own files after python/build."""
-
-Manifest = Dict[str, List[str]]
 
 
 def fail(why: str) -> NoReturn:
@@ -42,70 +29,6 @@ def cache() -> Path:
     return Path(base, "noriladle", "clones", hashlib.sha256(os.fsencode(ROOT)).hexdigest()[:16])
 
 
-def manifest() -> Manifest:
-    """The words of each line of release/MANIFEST by its first."""
-    try:
-        lines = (RELEASE / "MANIFEST").read_text("ascii").splitlines()
-    except (OSError, UnicodeDecodeError):
-        fail("release/MANIFEST is missing or damaged; git checkout -- release brings it back")
-    return {words[0]: words[1:] for words in map(str.split, lines) if words}
-
-
-def unpacked(name: str, told: Manifest) -> bytes:
-    """A file of the release, which is the one that the manifest names."""
-    try:
-        data = gzip.decompress((RELEASE / f"{name}.gz").read_bytes())
-    except (OSError, EOFError, zlib.error):
-        data = b""
-    if [hashlib.sha256(data).hexdigest()] != told[name][:1]:
-        fail(f"release/{name}.gz is missing or damaged; git checkout -- release brings it back")
-    return data
-
-
-def put(path: Path, make: Callable[[str], object]) -> None:
-    """Puts a file or a link in its place by a rename, so another start never sees half of it."""
-    new = tempfile.mktemp(prefix=f".{path.name}.", dir=path.parent)
-    try:
-        make(new)
-        os.replace(new, path)
-    except BaseException:
-        if os.path.lexists(new):
-            os.unlink(new)
-        raise
-
-
-def put_bytes(path: Path, data: bytes) -> None:
-    """Puts a file in its place."""
-    put(path, lambda new: Path(new).write_bytes(data))
-
-
-def sources() -> Iterator[Path]:
-    """All files that the library is built from, in no order."""
-    for name in INPUTS:
-        if (ROOT / name).is_file():
-            yield ROOT / name
-        for folder, inside, files in os.walk(ROOT / name):
-            inside[:] = [it for it in inside if it not in LEFT_OUT]
-            yield from (Path(folder, it) for it in files if it not in LEFT_OUT)
-
-
-def stamp_of(paths: Sequence[Path]) -> str:
-    """A sum of the names, sizes and times of files: another one says that a file may have changed."""
-    looked = ((path, path.stat()) for path in paths)
-    stats = sorted(f"{path} {it.st_size} {it.st_mtime_ns} {it.st_ctime_ns}" for path, it in looked)
-    return hashlib.sha256(os.fsencode("\n".join(stats))).hexdigest()
-
-
-def sum_of(paths: Sequence[Path]) -> str:
-    """The sum of the sources, as package/sources prints it."""
-    names = sorted(os.fsencode(path.relative_to(ROOT)) for path in paths)
-    total = hashlib.sha256()
-    for name in names:
-        one = hashlib.sha256((ROOT / os.fsdecode(name)).read_bytes()).hexdigest()
-        total.update(one.encode() + b"  " + name + b"\n")
-    return total.hexdigest()
-
-
 def read_record(place: Path) -> Dict[str, Any]:
     """What the last start has written of this folder; nothing if it cannot be read."""
     try:
@@ -115,35 +38,32 @@ def read_record(place: Path) -> Dict[str, Any]:
         return {}
 
 
-def link(place: Path, to: Path) -> None:
-    """Makes a link, if it is not there yet."""
-    if not place.is_symlink() or os.readlink(place) != str(to):
-        put(place, lambda new: os.symlink(to, new))
+def looked(*paths: Path) -> Dict[str, Any]:
+    """What says whether files have changed: their names, sizes and times."""
+    files = [it for path in paths for it in ([path] if path.is_file() else sorted(path.iterdir()))]
+    return {str(it): [it.stat().st_size, it.stat().st_mtime_ns, it.stat().st_ctime_ns] for it in files if it.is_file()}
 
 
-def is_new(name: str) -> bool:
-    """Whether this is what another start is about to put in its place."""
-    return name.startswith(".")
+def own_names() -> List[str]:
+    """The files of the module, without those that are made and git ignores."""
+    made = [".gitignore", *(line.strip("/") for line in (MODULE / ".gitignore").read_text("ascii").splitlines())]
+    paths = [Path(folder, name).relative_to(MODULE) for folder, inside, names in os.walk(MODULE) if "__pycache__" not in folder for name in names]
+    return sorted(str(path) for path in paths if path.parts[0] not in made)
 
 
-def put_links(folder: Path) -> None:
-    """Links the files of the module, and takes away links to files that are gone."""
-    names = {name for name in os.listdir(MODULE) if name not in BUILT}
+def put_links(folder: Path, names: Sequence[str]) -> None:
+    """Links each file of the module, so Python keeps its bytecode here and not in the clone, and takes away links to files that are gone."""
+    from files import put
+
     for name in names:
-        link(folder / name, MODULE / name)
-    link(folder / "shop", ROOT / "shop")
-    for name in set(os.listdir(folder)) - names - {*BUILT}:
-        if not is_new(name):
-            (folder / name).unlink(missing_ok=True)
-
-
-def put_remedies(place: Path) -> None:
-    """Makes the texts of errors."""
-    def make(new: str) -> None:
-        words = [sys.executable, str(ROOT / "tables" / "remedies"), "--to", f"{new}.json"]
-        subprocess.run(words, check=True, stdout=subprocess.DEVNULL)
-        os.rename(f"{new}.json", new)
-    put(place, make)
+        path, to = folder / name, str(MODULE / name)
+        path.parent.mkdir(parents=True, exist_ok=True)
+        if not path.is_symlink() or os.readlink(path) != to:
+            put(path, lambda new, to=to: os.symlink(to, new))
+    for path in folder.rglob("*"):
+        # Another start may be about to put what begins with a dot in its place.
+        if path.is_symlink() and not path.name.startswith(".") and str(path.relative_to(folder)) not in names:
+            path.unlink(missing_ok=True)
 
 
 def prepare(place: Path) -> bool:
@@ -151,23 +71,22 @@ def prepare(place: Path) -> bool:
 
     :raises OSError: the folder cannot be written.
     """
-    told, name, before = manifest(), f"{platform.machine()}/libgs1.so", read_record(place)
-    if name not in told:
-        fail(f"release/ has no library for {platform.machine()}; docs/PYTHON.md says where the module runs")
-    paths, remedies = list(sources()), stamp_of([ROOT / "tables" / "remedies", ROOT / "tables" / "remedies.tsv"])
-    now = {"library": told[name], "remedies": remedies, "of": told["sources"], "stamp": stamp_of(paths),
-           "files": sorted(os.listdir(MODULE)), "root": str(ROOT)}
+    release, before = ROOT / "release" / "MANIFEST", read_record(place)
+    now = {"root": str(ROOT), "files": own_names(),
+           "looked": looked(ROOT / "shop", ROOT / "tables", *([release] if release.exists() else []))}
     if {key: before.get(key) for key in now} == now:
         return bool(before["same"])
-    folder = place / "noriladle"
-    folder.mkdir(parents=True, exist_ok=True)
-    put_links(folder)
-    if before.get("library") != now["library"] or not (folder / "libgs1.so").exists():
-        put_bytes(folder / "libgs1.so", unpacked(name, told))
-    if before.get("remedies") != remedies or not (folder / "remedies.json").exists():
-        put_remedies(folder / "remedies.json")
-    same = [sum_of(paths)] == told["sources"]
-    put_bytes(place / "record.json", json.dumps({**now, "same": same}).encode())
+    from files import NoFile, is_current, put_file, put_files, unpacked
+    from parts import module_made
+
+    try:
+        folder, same = place / "noriladle", is_current()
+        folder.mkdir(parents=True, exist_ok=True)
+        put_links(folder, now["files"])
+        put_files(folder, module_made(platform.machine(), unpacked))
+    except NoFile as error:
+        fail(str(error))
+    put_file(place / "record.json", json.dumps({**now, "same": same}).encode())
     return same
 
 
@@ -176,14 +95,17 @@ def prepare_page(place: Path) -> None:
 
     :raises OSError: the folder cannot be written.
     """
-    import page_from_clone  # Only here, since no other command needs it.
+    record, now = place / "page.json", json.dumps(looked(ROOT / "page", ROOT / "shop", ROOT / "release" / "MANIFEST")).encode()
+    if not record.exists() or record.read_bytes() != now:
+        from files import put_file, put_files, unpacked
+        from parts import page_files
 
-    record = place / "page.stamp"
-    now = f"{stamp_of(page_from_clone.inputs(ROOT))} {bool(shutil.which('wasm-opt'))}"
-    if not record.exists() or record.read_text("utf-8") != now:
-        module = unpacked("wasm64/gs1_c.wasm", manifest())
-        page_from_clone.put_page(ROOT, place / "noriladle" / "page", module, put_bytes)
-        put_bytes(record, now.encode())
+        files, folder = page_files(unpacked), place / "noriladle" / "page"
+        put_files(folder, files)
+        for path in folder.iterdir():
+            if path.name not in files and not path.name.startswith("."):
+                path.unlink(missing_ok=True)
+        put_file(record, now)
 
 
 def main() -> int:
@@ -191,7 +113,7 @@ def main() -> int:
     if sys.version_info < (3, 8):
         fail("this needs Python 3.8 or newer")
     place = cache()
-    sys.pycache_prefix = str(place / "bytecode")
+    sys.path[0], sys.dont_write_bytecode = str(ROOT / "package"), True
     try:
         same = prepare(place)
         if sys.argv[1:2] == ["page"]:
@@ -199,9 +121,9 @@ def main() -> int:
     except OSError as error:
         fail(f"{place}: {error.strerror}; set XDG_CACHE_HOME to a folder that can be written and has room for 2 MB")
     if not same:
-        print(f"noriladle: the library is that of release {' '.join(manifest()['version'])}; the sources here differ; "
-              "python/build makes one of them with the Rattle kit", file=sys.stderr)
-    sys.path[0] = str(place)
+        print("noriladle: the library is that of the last release; the sources here differ; python/build makes one of them with the Rattle kit",
+              file=sys.stderr)
+    sys.path[0], sys.dont_write_bytecode = str(place), bool(os.environ.get("PYTHONDONTWRITEBYTECODE"))
     # The services find the program of the clone behind an installed one.
     os.environ["PATH"] = f"{os.environ.get('PATH', os.defpath)}{os.pathsep}{ROOT}"
     try:

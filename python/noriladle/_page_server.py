@@ -24,6 +24,8 @@ TYPES = {
     ".json": "application/json", ".png": "image/png", ".svg": "image/svg+xml", ".wasm": "application/wasm",
 }
 """The types of the page's files by the ends of their names. Other files are not served."""
+SERVER = "noriladle"
+"""By this name a server of the page is known."""
 _HANDSHAKE = b"\x16"
 """The first byte of a connection by TLS."""
 
@@ -135,7 +137,7 @@ class _Handler(BaseHTTPRequestHandler):
 
     server: PageServer
     protocol_version = "HTTP/1.1"
-    server_version, sys_version = "noriladle", ""
+    server_version, sys_version = SERVER, ""
     timeout = WAIT
 
     def do_GET(self) -> None:

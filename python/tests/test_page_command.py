@@ -1,5 +1,6 @@
 """``noriladle page``: what it serves and to whom, over HTTP and HTTPS, its limits, its certificate and its words."""
 import http.client
+import http.server
 import os
 import socket
 import ssl
@@ -380,3 +381,39 @@ def test_the_square(monkeypatch, capsys):
     assert page._square("https://192.168.1.5:8316/") == [] and capsys.readouterr().err == ""
     monkeypatch.setitem(__import__("sys").modules, "qrcode", None)
     assert page._square("https://192.168.1.5:8316/") == ["for the address as a QR code: apt-get install python3-qrcode"]
+
+
+def test_it_opens_the_browser(files, monkeypatch):
+    """At the port that it serves; if another start serves the usual port already, there, and then it ends."""
+    opened, served = threading.Event(), []
+    monkeypatch.setattr(page, "_files", lambda: files)
+    monkeypatch.setattr(page, "PORT", 0)
+    monkeypatch.setattr(page.webbrowser, "open", lambda url: served.append(url) or opened.set() or True)
+    monkeypatch.setattr(PageServer, "serve_forever", lambda self: opened.wait(5) and self.server_close())
+    assert main(["page", "--open"]) == 0 and len(served) == 1 and served[0].startswith("http://127.0.0.1:")
+
+
+def test_it_opens_the_page_that_is_served_already(serve, monkeypatch, capsys):
+    server, served = serve(), []
+    monkeypatch.setattr(page, "PORT", server.port)
+    monkeypatch.setattr(page, "_files", pytest.fail)
+    monkeypatch.setattr(page.webbrowser, "open", lambda url: served.append(url) or False)
+    assert main(["page", "--open"]) == 0 and served == [f"http://127.0.0.1:{server.port}/"]
+    assert "there is no browser to open" in capsys.readouterr().err
+
+
+def test_another_server_at_the_usual_port_is_not_the_page(monkeypatch):
+    class Other(http.server.BaseHTTPRequestHandler):
+        def do_HEAD(self):
+            self.send_response(200)
+            self.end_headers()
+
+        def log_message(self, *values):
+            pass
+
+    with http.server.HTTPServer(("127.0.0.1", 0), Other) as other:
+        threading.Thread(target=other.serve_forever, args=(0.02,), daemon=True).start()
+        monkeypatch.setattr(page, "PORT", other.server_port)
+        assert not page._is_served()
+        other.shutdown()
+    assert not page._is_served()

@@ -20,7 +20,7 @@ import tempfile
 import time
 
 ROOT = pathlib.Path(__file__).resolve().parents[2]
-SCRIPTS = ["file", "program", "prove", "prove.mk", "sources", "stamp", "take"]
+SCRIPTS = ["file", "files.py", "program", "prove", "prove.mk", "sources"]
 VERSION = (ROOT / "VERSION").read_text(encoding="ascii").strip()
 
 # Programs that say which they are. Long enough that gzip writes several blocks of the file.
@@ -59,6 +59,7 @@ class Tree:
         self.write(self.folder / "crates" / "gs1_hub" / "src" / "main.rt", "main\n")
         self.packed = self.folder / "release" / "x86_64" / "gs1_hub.gz"
         self.manifest = self.folder / "release" / "MANIFEST"
+        self.program = self.folder / "package" / "program"
         self.release()
 
     @staticmethod
@@ -68,13 +69,16 @@ class Tree:
         path.write_text(text, encoding="utf-8")
         path.chmod(0o755)
 
-    def release(self) -> None:
-        """Makes the release of the sources as they are."""
+    def release(self, word: str = "") -> None:
+        """Makes the release of the sources as they are; with a word, of others, and its program says that word."""
+        stub = STUB.replace("released", word or "released")
         self.packed.parent.mkdir(parents=True, exist_ok=True)
-        self.packed.write_bytes(gzip.compress(STUB.encode(), mtime=0))
+        self.packed.write_bytes(gzip.compress(stub.encode(), mtime=0))
+        if word:
+            self.source.write_text(word, encoding="ascii")
         sources = subprocess.run([str(self.folder / "package" / "sources")], stdout=subprocess.PIPE, check=True, text=True).stdout
-        sums = hashlib.sha256(STUB.encode()).hexdigest()
-        self.manifest.write_text(f"version {VERSION}\nlogic 0\nsources {sources}x86_64/gs1_hub {sums} {len(STUB)}\n", encoding="ascii")
+        sums = hashlib.sha256(stub.encode()).hexdigest()
+        self.manifest.write_text(f"version {VERSION}\nlogic 0\nsources {sources}x86_64/gs1_hub {sums} {len(stub)}\n", encoding="ascii")
 
     def environment(self, **more: str) -> dict[str, str]:
         """The environment of a run: no kit, and its own home."""
@@ -86,7 +90,7 @@ class Tree:
 
     def run(self, *words: str, environment: dict[str, str] | None = None, start: str = "") -> tuple[int, str, str]:
         """The status of ./gs1_hub, its output and its errors."""
-        ran = subprocess.run(["bash", start or str(self.folder / "gs1_hub"), *words], env=environment or self.environment(),
+        ran = subprocess.run(["bash", start or str(self.folder / "gs1_hub"), *words], cwd=self.folder, env=environment or self.environment(),
                              stdin=subprocess.DEVNULL, stdout=subprocess.PIPE, stderr=subprocess.PIPE, text=True, check=False)
         return ran.returncode, ran.stdout, ran.stderr
 
@@ -128,48 +132,38 @@ class Tests:
 
 
 ANSWER = (0, "released a b\n", "")
-OTHER = f"gs1_hub: this is the program of release {VERSION}; the sources here differ, and there is no Rattle kit to build them\n"
+LACKS = "and there is no Rattle kit to build it, of which CONTRIBUTING.md says more"
+OTHER = f"gs1_hub: this is the program of release {VERSION}; the sources here differ, {LACKS}\n"
 
 
 def try_current(tests: Tests, tree: Tree) -> None:
     """The release of these sources, without a kit."""
     tests.expect("the first run", tree.run("a", "b"), ANSWER)
-    tests.expect("what it left", tree.left(), ["gs1_hub", "gs1_hub.from", "gs1_hub.list"])
+    tests.expect("what it left", tree.left(), ["gs1_hub", "gs1_hub.from"])
     tests.expect("the second", tree.run("a", "b"), ANSWER)
     tests.expect("with a kit, which is not asked", tree.run("a", "b", environment=tree.with_kit()), ANSWER)
     link = tree.folder.parent / "link"
     link.symlink_to("tree/gs1_hub")
     tests.expect("through a link", tree.run("a", "b", start=str(link)), ANSWER)
-    program = tree.folder / "crates" / "gs1_hub" / "out" / "gs1_hub"
-    made = program.stat().st_ino
-    os.utime(tree.source)
-    tests.expect("after a touch", tree.run("a", "b"), ANSWER)
-    tests.expect("after a touch it is not unpacked again", program.stat().st_ino, made)
-    program.write_text("#!/bin/sh\necho another\n", encoding="ascii")
-    tests.expect("after the program was overwritten", tree.run("a", "b"), ANSWER)
-    copy = tree.folder.parent / "copy"
-    shutil.copytree(tree.folder, copy, copy_function=shutil.copy)
-    (copy / "release" / "x86_64" / "gs1_hub.gz").unlink()
-    tests.expect("in a copy, by contents", tree.run("a", "b", start=str(copy / "gs1_hub")), ANSWER)
+    tests.expect("by its name in its folder", tree.run("a", "b", start="gs1_hub"), ANSWER)
+    tree.release("again")
+    tests.expect("after a new release", tree.run("a", "b"), (0, "again a b\n", ""))
 
 
 def try_other(tests: Tests, tree: Tree) -> None:
     """Sources that are not those of the release."""
-    tests.expect("before an edit", tree.run("a", "b"), ANSWER)
-    times = tree.source.stat()
     tree.source.write_text("two\n", encoding="ascii")
-    os.utime(tree.source, ns=(times.st_atime_ns, times.st_mtime_ns))
     tests.expect("other sources, no kit", tree.run("a", "b"), (0, "released a b\n", OTHER))
     tests.expect("the same again", tree.run("a", "b"), (0, "released a b\n", OTHER))
     status, output, error = tree.run("a", "b", environment=tree.with_kit())
     tests.expect("other sources, with a kit", (status, output, "proved" in error), (0, "built a b\n", True))
     tests.expect("the same again, without a kit", tree.run("a", "b"), (0, "built a b\n", ""))
     tree.source.write_text("one\n", encoding="ascii")
-    tests.expect("back at the sources of the release", tree.run("a", "b"), ANSWER)
     (tree.folder / "crates" / "low" / "README.md").write_text("a page", encoding="ascii")
-    tests.expect("a page of a crate is no source", tree.run("a", "b"), ANSWER)
+    tests.expect("./do build at the sources of the release, and a page is no source", tree.run("a", "b", start=str(tree.program)), ANSWER)
     tree.write(tree.folder / "crates" / "low" / "src" / "more.rt", "more\n")
-    tests.expect("a file more is one", tree.run("a", "b"), (0, "released a b\n", OTHER))
+    tests.expect("./do build after a file more, which is one", tree.run("a", "b", start=str(tree.program)), (0, "released a b\n", OTHER))
+    tests.expect("./gs1_hub after it", tree.run("a", "b"), (0, "released a b\n", OTHER))
 
 
 def try_damage(tests: Tests, tree: Tree) -> None:
@@ -178,44 +172,35 @@ def try_damage(tests: Tests, tree: Tree) -> None:
     changed = bytearray(whole)
     changed[len(changed) // 2] ^= 1
     swapped = gzip.compress(b"#!/bin/sh\necho another\n", mtime=0)
-    for what, packed, why in [
-        ("cut", whole[: len(whole) // 2], "x86_64/gs1_hub.gz is cut or damaged"),
-        ("empty", b"", "x86_64/gs1_hub.gz is cut or damaged"),
-        ("changed", bytes(changed), "x86_64/gs1_hub.gz is cut or damaged"),
-        ("another", swapped, "x86_64/gs1_hub.gz is not the file that release/MANIFEST names"),
-        ("missing", None, "x86_64/gs1_hub.gz is missing"),
-    ]:
+    damaged = (69, "", f"gs1_hub: release/x86_64/gs1_hub.gz is missing or damaged; {BACK}\n")
+    for what, packed in [("cut", whole[: len(whole) // 2]), ("empty", b""), ("changed", bytes(changed)), ("another", swapped), ("missing", None)]:
         tree.packed.unlink()
         if packed is not None:
             tree.packed.write_bytes(packed)
-        tests.expect(f"a release file that is {what}", tree.run("a"), (69, "", f"gs1_hub: release/{why}; {BACK}\n"))
+        tests.expect(f"a release file that is {what}", tree.run("a"), damaged)
+        tests.expect(f"a release file that is {what}, with a kit", tree.run("a", environment=tree.with_kit()), damaged)
         tests.expect(f"what it left, {what}", tree.left(), [])
         tree.packed.write_bytes(whole)
     line = manifest.splitlines()[-1]
     tree.manifest.write_text(manifest.replace(line, "x86_64/gs1_hub 12"), encoding="ascii")
-    tests.expect("a manifest without a sum", tree.run("a"), (69, "", f"gs1_hub: release/MANIFEST is damaged at x86_64/gs1_hub; {BACK}\n"))
+    tests.expect("a manifest without a sum", tree.run("a"), damaged)
     tree.manifest.write_text(manifest, encoding="ascii")
     for what in ["no manifest", "no release"]:
         if what == "no manifest":
             tree.manifest.unlink()
         else:
             shutil.rmtree(tree.packed.parents[1])
-        status, output, error = tree.run("a")
-        tests.expect(what, (status, output, error.count("\n"), "release/MANIFEST is missing" in error, "Rattle kit" in error), (69, "", 1, True, True))
-    tree.release()
-    tree.packed.unlink()
+        tests.expect(what, tree.run("a"), (69, "", f"gs1_hub: release/MANIFEST is missing or damaged; {BACK}\n"))
     status, output, error = tree.run("a", environment=tree.with_kit())
-    wanted = f"gs1_hub: release/x86_64/gs1_hub.gz is missing; {BACK}; so it is proved and built"
-    tests.expect("missing, with a kit", (status, output, error.splitlines()[0]), (0, "built a\n", wanted))
+    tests.expect("no release, with a kit", (status, output, "proved" in error), (0, "built a\n", True))
 
 
 def try_processors(tests: Tests, tree: Tree) -> None:
     """Machines that the release has no program for."""
     for system in [{"HOSTTYPE": "riscv64"}, {"OSTYPE": "linux-musl"}]:
-        status, output, error = tree.run("a", environment=tree.environment(**system))
         name = "riscv64" if "HOSTTYPE" in system else "x86_64-linux-musl"
-        found = (status, output, error.count("\n"), f"release/ has no program for {name}" in error, "Rattle kit" in error)
-        tests.expect(f"on {name}", found, (69, "", 1, True, True))
+        found = tree.run("a", environment=tree.environment(**system))
+        tests.expect(f"on {name}", found, (69, "", f"gs1_hub: release/ has no program for {name}, {LACKS}\n"))
     tree.packed.write_bytes(gzip.compress(STUB.replace('[ "$1" =', 'echo "GLIBC_2.99 not found" >&2; exit 1; [ "$1" =').encode(), mtime=0))
     text = gzip.decompress(tree.packed.read_bytes())
     lines = tree.manifest.read_text(encoding="ascii").splitlines()[:-1]
@@ -265,18 +250,18 @@ def try_files(tests: Tests, tree: Tree) -> None:
     tests.expect("package/file", file(name, tree.environment()), (0, "", True))
     tests.expect("package/file, what it made", made.read_text(encoding="ascii"), STUB)
     made.unlink()
-    lacks = "and there is no Rattle kit to build it; CONTRIBUTING.md says more"
-    wanted = (69, f"package/file: release/ has no aarch64/libgs1.so of these sources, {lacks}\n", False)
-    tests.expect("package/file without one for arm64", file("aarch64/libgs1.so", tree.environment()), wanted)
+    def refused(why: str, status: int = 69) -> tuple[int, str, bool]:
+        return status, f"package/file: {why}\n", False
+
+    more = "there is no Rattle kit to build it, of which CONTRIBUTING.md says more"
+    tests.expect("package/file without one for arm64", file("aarch64/libgs1.so", tree.environment()), refused(f"release/ has no aarch64/libgs1.so; {more}"))
     whole = tree.packed.read_bytes()
     tree.packed.write_bytes(whole[:100])
-    wanted = (69, f"package/file: release/{name}.gz is cut or damaged; {BACK}\n", False)
-    tests.expect("package/file of a damaged release", file(name, tree.environment()), wanted)
+    tests.expect("package/file of a damaged release", file(name, tree.environment()), refused(f"release/{name}.gz is missing or damaged; {BACK}; {more}"))
     tree.packed.write_bytes(whole)
     tree.source.write_text("two\n", encoding="ascii")
-    wanted = (69, f"package/file: release/ has no {name} of these sources, {lacks}\n", False)
-    tests.expect("package/file of other sources, no kit", file(name, tree.environment()), wanted)
-    tests.expect("package/file of what is nothing", file("x86_64/other", tree.with_kit()), (64, "package/file: there is no x86_64/other\n", False))
+    tests.expect("package/file of other sources, no kit", file(name, tree.environment()), refused(f"release/ has no {name} of these sources; {more}"))
+    tests.expect("package/file of what is nothing", file("x86_64/other", tree.with_kit()), refused("there is no x86_64/other", 64))
 
 
 def try_many(tests: Tests, tree: Tree) -> None:
@@ -284,10 +269,20 @@ def try_many(tests: Tests, tree: Tree) -> None:
     command = ["bash", str(tree.folder / "gs1_hub"), "a"]
     runs = [subprocess.Popen(command, env=tree.environment(), stdout=subprocess.PIPE, stderr=subprocess.STDOUT, text=True) for _ in range(12)]
     tests.expect("twelve first runs at once", [(it.communicate()[0], it.returncode) for it in runs], [("released a\n", 0)] * 12)
-    tests.expect("what they left", tree.left(), ["gs1_hub", "gs1_hub.from", "gs1_hub.list"])
-    begun = time.monotonic()
-    tree.run("a")
-    tests.expect("a run that finds nothing changed takes less than a second", time.monotonic() - begun < 1, True)
+    tests.expect("what they left", tree.left(), ["gs1_hub", "gs1_hub.from"])
+    program = tree.folder / "crates" / "gs1_hub" / "out" / "gs1_hub"
+    more = best_time(str(tree.folder / "gs1_hub")) - best_time(str(program))
+    tests.expect(f"./gs1_hub adds at most 5 ms to the program: {more * 1000:.1f} ms", more <= 0.005, True)
+
+
+def best_time(*command: str) -> float:
+    """The seconds of the fastest of many runs, which other work on this machine slows the least."""
+    times = []
+    for _ in range(100):
+        begun = time.monotonic()
+        subprocess.run(command, stdout=subprocess.DEVNULL, check=True)
+        times.append(time.monotonic() - begun)
+    return min(times)
 
 
 def main() -> int:

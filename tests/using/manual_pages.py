@@ -1,6 +1,6 @@
-"""Compares the manual pages and the completions that package/pages makes with the program's help.
+"""Compares the manual pages and the completions that package/pages.py makes with the program's help.
 
-Usage: manual_pages.py PROGRAM FOLDER; FOLDER has what package/pages made. A page, as `man` prints it, must have each line of the help, in
+Usage: manual_pages.py PROGRAM FOLDER; FOLDER has what package/pages.py made. A page, as `man` prints it, must have each line of the help, in
 its order, and no other options. bash and zsh must offer exactly the commands as the first word, and after it exactly the options of the
 command. bash must not offer an option again that is there already, nor any word in place of a number.
 """

@@ -14,13 +14,15 @@ import ipaddress
 import socket
 import sys
 import threading
+import webbrowser
+from http.client import HTTPConnection, HTTPException
 from pathlib import Path
 from typing import Collection, Dict, List, Optional, Set
 
 from . import WrongWords, tell
 from .. import __file__ as _module
 from .._certificate import Certificate, NoCertificate, certificate_of
-from .._page_server import PageFile, PageServer, files_of
+from .._page_server import SERVER, PageFile, PageServer, files_of
 
 PORT = 8316
 """The usual port. It stays the same, since a browser keeps lists and installed pages by address and port."""
@@ -44,6 +46,7 @@ def add_arguments(parser: argparse.ArgumentParser) -> None:
     """Adds the arguments of ``noriladle page``."""
     parser.add_argument("--port", type=_port, metavar="PORT",
                         help=f"Port to serve at, or 0 for a free one [default: {PORT}, or a free one if that is busy]")
+    parser.add_argument("--open", action="store_true", help="Open the page in this machine's browser, as the entry in the menu does")
     parser.add_argument("--share", action="store_true", help="Serve telephones in the local network too, over HTTPS")
     parser.add_argument("--address", type=_address, metavar="ADDRESS",
                         help="This machine's IPv4 address in the local network [default: that of its usual network]")
@@ -69,6 +72,9 @@ def run(words: argparse.Namespace) -> int:
     """Serves the page until somebody ends it."""
     if words.address and not words.share:
         raise WrongWords("--address is for --share")
+    if words.open and words.port is None and not words.share and _is_served():
+        _open(PORT)
+        return 0
     files = _files()
     address = (words.address or _own_address()) if words.share else None
     certificate = _certificate(address) if address else None
@@ -78,10 +84,31 @@ def run(words: argparse.Namespace) -> int:
     if address and certificate:
         servers.append(_shared(address, here.port, files, certificate))
     tell("Ctrl-C ends it.")
+    if words.open:
+        threading.Thread(target=_open, args=(here.port,), daemon=True).start()
     for server in servers[1:]:
         threading.Thread(target=server.serve_forever, daemon=True).start()
     here.serve_forever()
     return 0
+
+
+def _is_served() -> bool:
+    """Whether this command serves the page already at the usual port."""
+    connection = HTTPConnection(_HERE, PORT, timeout=2)
+    try:
+        connection.request("HEAD", "/")
+        answer = connection.getresponse()
+        return answer.status == 200 and answer.getheader("Server", "").strip() == SERVER
+    except (OSError, HTTPException):
+        return False
+    finally:
+        connection.close()
+
+
+def _open(port: int) -> None:
+    url = f"http://{_HERE}:{port}/"
+    if not webbrowser.open(url):
+        tell(f"there is no browser to open: go to {url}")
 
 
 def _files() -> Dict[str, PageFile]:
@@ -95,7 +122,7 @@ def _files() -> Dict[str, PageFile]:
     except OSError:
         files = {}
     if "gs1.module.js" not in files:
-        raise WrongWords(f"the page is not in {folder}: use ./noriladle page in a clone of the repository")
+        raise WrongWords(f"the page is not in {folder}: install the package anew, or use ./noriladle page in a clone")
     return files
 
 

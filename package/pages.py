@@ -1,5 +1,5 @@
 #!/usr/bin/env python3
-"""Makes manual pages and completions of a program's own help: package/pages PROGRAM FOLDER [SECONDS]
+"""Makes manual pages and completions of a program's own help: package/pages.py PROGRAM FOLDER [SECONDS]
 
 PROGRAM is gs1_hub or noriladle. Writes into FOLDER PROGRAM.1 and PROGRAM-COMMAND.1 for each command, and the completions
 PROGRAM.bash and PROGRAM.zsh. All that they say of commands and options stands in `--help`. SECONDS since 1970 are the date of the
@@ -48,12 +48,6 @@ def option(line):
     """An option of a help: its names, its value or none, and what is said of it."""
     names, value, about = re.match(r" +(-.*?)(?: <(\S+)>)?(?:  +(.*))?$", line).groups()
     return names.split(", "), value, about or ""
-
-
-def help_of(program, *command):
-    words = [program, *command, "--help"]
-    english = {**os.environ, "LC_ALL": "C.UTF-8"}
-    return Help(subprocess.run(words, stdout=subprocess.PIPE, check=True, text=True, env=english).stdout)
 
 
 def roff(text):
@@ -182,18 +176,29 @@ def zsh(name, hub, commands):
     return "\n".join(made) + "\n"
 
 
+def files_of(helps, date, version):
+    """The pages and completions of a program by their names, of its helps: first its own, then those of its commands."""
+    (name, hub), *commands = ((name, Help(text)) for name, text in helps.items())
+    pages = {name: hub, **{f"{name}-{it}": its for it, its in commands}}
+    files = {f"{page}.1": manual(page, its, [it for it in pages if it != page], date, version) for page, its in pages.items()}
+    return {**files, f"{name}.bash": bash(name, hub, commands), f"{name}.zsh": zsh(name, hub, commands)}
+
+
+def helps_of(program, name):
+    """The helps of a program that is run."""
+    def told(*words):
+        english = {**os.environ, "LC_ALL": "C.UTF-8"}
+        return subprocess.run([program, *words, "--help"], stdout=subprocess.PIPE, check=True, text=True, env=english).stdout
+    whole = told()
+    return {name: whole, **{command: told(command) for command, _ in Help(whole).commands}}
+
+
 def main():
     program, folder = os.path.abspath(sys.argv[1]), sys.argv[2]
     date = time.strftime("%Y-%m-%d", time.gmtime(int(sys.argv[3]) if len(sys.argv) > 3 else None))
     version = subprocess.run([program, "--version"], stdout=subprocess.PIPE, check=True, text=True).stdout.split()[1]
-    hub = help_of(program)
-    name = hub.usage.split()[0]
-    commands = [(it, help_of(program, it)) for it, _ in hub.commands]
-    pages = {name: hub, **{f"{name}-{it}": its for it, its in commands}}
-    files = {f"{page}.1": manual(page, its, [it for it in pages if it != page], date, version) for page, its in pages.items()}
-    files |= {f"{name}.bash": bash(name, hub, commands), f"{name}.zsh": zsh(name, hub, commands)}
     os.makedirs(folder, exist_ok=True)
-    for file, text in files.items():
+    for file, text in files_of(helps_of(program, os.path.basename(program)), date, version).items():
         with open(os.path.join(folder, file), "w", encoding="utf-8") as it:
             it.write(text)
 

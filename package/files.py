@@ -1,0 +1,191 @@
+"""The files of the program and of the library: those of release/, or others that the Rattle kit builds; and what everything else is made of.
+
+The scripts of package/, embed/, page/, python/ and npm/ that build something use it, and so do ./gs1_hub and ./noriladle at first use.
+"""
+from __future__ import annotations
+
+import gzip
+import hashlib
+import os
+import re
+import shutil
+import subprocess
+import sys
+import tempfile
+import zlib
+from functools import lru_cache
+from pathlib import Path
+from typing import Callable, Dict, List
+
+ROOT = Path(__file__).resolve().parent.parent
+VERSION = (ROOT / "VERSION").read_text("ascii").strip()
+SONAME = "libgs1.so.1"
+"""By this name programs find the library; embed/link gives it. Its number changes only when a call does, so it is not that of the version."""
+NO_INPUT, NO_FILE, NO_ROOM = 64, 69, 73
+"""The statuses of the scripts: no such name, no file, no room or right to put it there."""
+_LOWER = ("--enable-memory64", "--memory64-lowering", "--enable-bulk-memory", "--enable-sign-ext", "--enable-mutable-globals")
+"""How wasm-opt makes a module with addresses of 32 bits. The other features are those that the module already uses."""
+_BACK = "git checkout -- release brings it back"
+
+
+class NoFile(Exception):
+    """Why there is no file, in a line, and the status that says so."""
+
+    def __init__(self, why: str, status: int = NO_FILE) -> None:
+        super().__init__(why)
+        self.status = status
+
+
+def manifest() -> Dict[str, List[str]]:
+    """The words of each line of release/MANIFEST by its first.
+
+    :raises NoFile: it is missing or damaged.
+    """
+    try:
+        lines = (ROOT / "release" / "MANIFEST").read_text("ascii").splitlines()
+        told = {words[0]: words[1:] for words in map(str.split, lines) if words}
+    except (OSError, UnicodeDecodeError):
+        told = {}
+    if not (told.get("sources") and told.get("version")):
+        raise NoFile(f"release/MANIFEST is missing or damaged; {_BACK}")
+    return told
+
+
+def unpacked(name: str) -> bytes:
+    """A file of the release, which is the one that the manifest names.
+
+    :raises NoFile: it is missing or damaged, or the release has none of this name.
+    """
+    told = manifest()
+    if name not in told:
+        raise NoFile(f"release/ has no {name}")
+    try:
+        data = gzip.decompress((ROOT / "release" / f"{name}.gz").read_bytes())
+    except (OSError, EOFError, zlib.error):
+        data = b""
+    if [hashlib.sha256(data).hexdigest()] != told[name][:1]:
+        raise NoFile(f"release/{name}.gz is missing or damaged; {_BACK}")
+    return data
+
+
+def sum_of_sources() -> str:
+    """The checksum of all that a build of the program and of the library reads."""
+    # From a zip it has no right to be run.
+    return subprocess.run(["bash", str(ROOT / "package" / "sources")], check=True, stdout=subprocess.PIPE, text=True).stdout.strip()
+
+
+@lru_cache(maxsize=None)
+def is_current() -> bool:
+    """Whether the release is of these sources.
+
+    :raises NoFile: there is no release.
+    """
+    told = manifest()
+    return told["version"] == [VERSION] and told["sources"] == [sum_of_sources()]
+
+
+def has_kit() -> bool:
+    """Whether the Rattle kit is there."""
+    return shutil.which("rt") is not None
+
+
+def file_of(name: str) -> bytes:
+    """A file of these sources: TARGET/gs1_hub, TARGET/libgs1.a or TARGET/libgs1.so with x86_64 or aarch64 as the target, or gs1_c.wasm with wasm64
+    or wasm32. It comes from release/, if that is of these sources. Otherwise the kit builds it.
+
+    :raises NoFile: there is none.
+    """
+    try:
+        if is_current():
+            return unpacked(name)
+        why = f"release/ has no {name} of these sources"
+    except NoFile as error:
+        why = str(error)
+    if not has_kit():
+        raise NoFile(f"{why}; there is no Rattle kit to build it, of which CONTRIBUTING.md says more")
+    return built(name)
+
+
+def built(name: str) -> bytes:
+    """The same, built by the kit in any case.
+
+    :raises NoFile: the kit does not build it, and has said why; or there is none of this name.
+    """
+    target, _, file = name.partition("/")
+    crate, made = {"gs1_hub": ("gs1_hub", "gs1_hub"), "gs1_c.wasm": ("gs1_c", "gs1_c.wasm")}.get(file, ("gs1_c", "libgs1_c.a"))
+    if name == "wasm32/gs1_c.wasm":
+        return lowered(built("wasm64/gs1_c.wasm"))
+    if not re.fullmatch(r"(x86_64|aarch64)/(gs1_hub|libgs1\.a|libgs1\.so)|wasm64/gs1_c\.wasm", name):
+        raise NoFile(f"there is no {name}", NO_INPUT)
+    _run("package/prove", crate, target)
+    path = ROOT / "crates" / crate / "out" / target / made
+    step = {"libgs1.a": "embed/archive", "libgs1.so": "embed/link"}.get(file)
+    if not step:
+        return path.read_bytes()
+    with tempfile.TemporaryDirectory() as folder:
+        _run(step, target, str(path), f"{folder}/{file}")
+        return Path(folder, file).read_bytes()
+
+
+def _run(script: str, *words: str) -> None:
+    if subprocess.run([str(ROOT / script), *words], check=False, stdout=sys.stderr).returncode:
+        raise NoFile(f"{script} could not build it, as it says above", 70)
+
+
+def lowered(module: bytes) -> bytes:
+    """The module of WebAssembly with addresses of 32 bits, for browsers and Node without larger ones.
+
+    :raises NoFile: there is no wasm-opt.
+    """
+    if not shutil.which("wasm-opt"):
+        raise NoFile("there is no wasm-opt: apt-get install binaryen")
+    with tempfile.TemporaryDirectory() as folder:
+        before, after = Path(folder, "64.wasm"), Path(folder, "32.wasm")
+        before.write_bytes(module)
+        subprocess.run(["wasm-opt", *_LOWER, str(before), "-o", str(after)], check=True, stdout=subprocess.DEVNULL)
+        return after.read_bytes()
+
+
+def put(path: Path, make: Callable[[str], object]) -> None:
+    """Puts a file or a link in its place by a rename, so nobody ever sees half of it.
+
+    :raises OSError: it cannot be put there.
+    """
+    new = tempfile.mktemp(prefix=f".{path.name}.", dir=path.parent)
+    try:
+        make(new)
+        os.replace(new, path)
+    except BaseException:
+        if os.path.lexists(new):
+            os.unlink(new)
+        raise
+
+
+def put_file(path: Path, data: bytes, mode: int = 0o644) -> None:
+    """Puts a file in its place with this mode."""
+    def make(new: str) -> None:
+        Path(new).write_bytes(data)
+        os.chmod(new, mode)
+    put(path, make)
+
+
+def put_files(folder: Path, files: Dict[str, bytes]) -> None:
+    """Puts files into a folder by their names below it. One that is there with these bytes stays as it is."""
+    for name, data in files.items():
+        path = folder / name
+        path.parent.mkdir(parents=True, exist_ok=True)
+        if not path.is_file() or path.read_bytes() != data:
+            put_file(path, data)
+
+
+def ended(run: Callable[[], object], name: str) -> int:
+    """Runs a script of this name, and returns its status. A fault is a line on standard error."""
+    try:
+        run()
+        return 0
+    except NoFile as error:
+        print(f"{name}: {error}", file=sys.stderr)
+        return error.status
+    except OSError as error:
+        print(f"{name}: {error.filename or ''}: {error.strerror}", file=sys.stderr)
+        return NO_ROOM
