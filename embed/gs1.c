@@ -54,6 +54,10 @@ static size_t width_words(uint32_t width) {
     return ((size_t)width + 3) / 2;
 }
 
+const char *gs1_version(void) {
+    return GS1_VERSION " (sources " GS1_SOURCES ")";
+}
+
 size_t gs1_row(const uint16_t *widths, size_t count, uint16_t year, uint8_t *out, size_t room) {
     return gs1_c_row(READ(uint16_t, widths, count), year, OUT);
 }

@@ -1,10 +1,10 @@
 // GS1 barcodes for Node and browsers: turns the answers of the proved library into values of JavaScript.
 import { aiAt, associations, doubts, elementOf, needsSeparator } from "./elements.js";
-import { MODULE } from "./module.js";
+import { MODULE, VERSION } from "./module.js";
 import { Gs1 as Calls, greyOf, pairsOf, symbolsShown } from "./page.js";
 import { REMEDIES } from "./remedies.js";
 
-export { associations, doubts };
+export { VERSION, associations, doubts };
 
 // The largest input.
 const MOST_WIDTHS = 131_072, MOST_BYTES = 262_144, MOST_U16 = 65_535;

@@ -9,7 +9,7 @@ import zipfile
 from pathlib import Path
 from typing import Callable, Dict
 
-from files import ROOT, SONAME, VERSION, file_of
+from files import ROOT, SONAME, VERSION, file_of, sum_of_sources
 
 Files = Dict[str, bytes]
 Take = Callable[[str], bytes]
@@ -107,10 +107,10 @@ def npm_files() -> Files:
     npm, page = ROOT / "npm", ROOT / "page"
     own = {name: (npm / name).read_bytes() for name in ("index.js", "elements.js", "index.d.ts", "README.md")}
     scripts = "".join((page / f"{name}.js").read_text("utf-8").replace('"use strict";\n', "", 1) for name in ("gs1", "picture", "ais", "values"))
-    module = _constant("MODULE", file_of("wasm32/gs1_c.wasm"))
+    module, version = _constant("MODULE", file_of("wasm32/gs1_c.wasm")), f'"{VERSION} (sources {sum_of_sources()[:12]})"'
     return {**own, **licences(), "remedies.js": remedies("js"),
             "package.json": (npm / "package.json").read_text("utf-8").replace("@VERSION@", VERSION).encode(),
-            "module.js": f"// The module of crates/gs1_c, with addresses of 32 bits. Made by npm/build.\nexport {module}".encode(),
+            "module.js": f"// The module of crates/gs1_c, with addresses of 32 bits. Made by npm/build.\nexport {module}export const VERSION = {version};\n".encode(),
             "page.js": f"// The scripts of the page that ask the module, make the grey values of pictures and say what values mean. Made by npm/build.\n{scripts}"
                        f"{_NPM_EXPORT}".encode()}
 

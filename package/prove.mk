@@ -14,7 +14,7 @@ work = $(CURDIR)/$(file).new
 new = $(work)/$(notdir $(file))
 is_arm = $(and $(is_goal),$(filter aarch64,$(target)))
 # Two sums are the same if all that is read to make the file is, whatever the times of files are.
-sum = { echo '$(version) $(gate)' && sed -n '/^$@[ :]/p' crates.txt && cat /dev/null $(below:%=out/libraries/%.rlib.sum) && find crates/$@ \
+sum = { echo '$(version) $(gate) $(if $(is_goal),$(sources))' && sed -n '/^$@[ :]/p' crates.txt && cat /dev/null $(below:%=out/libraries/%.rlib.sum) && find crates/$@ \
     $(if $(is_arm),package/aarch64) '(' -name out -o -name must-fail ')' -prune -o -type f ! -name README.md -print0 | LC_ALL=C sort -z | \
     xargs -0 sha256sum; } | sha256sum
 # What has others beside it takes half the processors.
@@ -27,13 +27,15 @@ machine = --target $(if $(filter wasm64,$(target)),wasm64-unknown-unknown,$(or $
 compile = $(if $(is_arm),package/aarch64/toolchain "$(kit)" "$(work)/toolchain" &&) \
     $(rattle) $(machine) --backend llvm $(if $(filter x86_64,$(target)),--cpu x86-64)
 link = "$(kit)/bin/rattle-link" $(machine) -o "$(new)"
+# The program says of which sources it is: no crate can know the sum of all.
+stamp = $(if $(filter gs1_hub,$@),&& LC_ALL=C sed -i "s/sources 0\{12\}/sources $(sources)/" "$(new)")
 # The statements of some hold those of most of jiff: these are written as they were checked.
 build.rlib = ($(rattle) $(if $(filter element_core code128_code lane_core,$@),--incremental "$(work)/checked",--statements) -o "$(new)")
 build.a = ($(compile) --crate-type staticlib -o "$(new)")
 build.wasm = ($(compile) --crate-type staticlib -o "$(new).a") && $(link) "$(new).a"
 # What is given to others has no names of its parts. The kit's compiler is several tools, by the name that it is called by.
 build = ($(compile) -o "$(new).o") && $(link) "$(new).o" $(if $(is_arm),"$(work)/toolchain/kit.o","$(kit)/c/libos_c.a" "$(kit)/c/liblibc_c.a") \
-    $(if $(target),&& (exec -a llvm-strip "$(kit)/toolchain/bin/clang" "$(new)"))
+    $(if $(target),&& (exec -a llvm-strip "$(kit)/toolchain/bin/clang" "$(new)")) $(stamp)
 
 .PHONY: $(names)
 $(names): $$(below)

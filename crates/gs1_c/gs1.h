@@ -40,8 +40,8 @@ extern "C" {
  * accepts those of the profile (docs/DECISIONS.md). */
 #define GS1_EVERY_AI 0x8000
 
-/* The version of the library. */
-#define GS1_VERSION "1.1.0"
+/* The version of this header. */
+#define GS1_VERSION "2.0.0"
 
 /* The numbers of errors (docs/FAULTS.md). */
 enum gs1_fault {
@@ -69,6 +69,10 @@ struct gs1_bytes {
 struct gs1_element {
     struct gs1_bytes ai, value;
 };
+
+/* The version of the library that runs and the beginning of its sources' checksum, such as "2.0.0 (sources 7b9649c13394)", with a
+ * terminating 0. */
+const char *gs1_version(void);
 
 /* The number of the error that a line reports, as in enum gs1_fault, or 0 if it reports none. `length` is the value that the call
  * returned which wrote the line. */

@@ -42,7 +42,7 @@ __all__ = [
     "read_gtin", "read_picture", "read_row", "read_scan",
 ]
 
-__version__ = "1.1.0"
+__version__ = "2.0.0"
 
 _MOST = 65_535
 _LINE = 292
@@ -75,6 +75,16 @@ _library.gs1_c_label.argtypes = [_U32, _BYTES, _SIZE, _U16, _U16, _U16, _U16, _B
 for _name in ("row_elements", "find", "dots_elements", "find_dots", "picture", "picture_room", "date", "scan", "gtin", "digit",
               "text", "text_elements", "label", "symbol"):
     getattr(_library, f"gs1_c_{_name}").restype = _SIZE
+
+
+def _version_and_sources() -> str:
+    """The version of the library and the beginning of its sources' checksum."""
+    call = getattr(_library, "gs1_version", None)
+    if not call:  # The library is older than the module.
+        return f"{__version__} (sources unknown)"
+    call.restype = _BYTES
+    told: bytes = call()
+    return told.decode()
 
 
 class Refusal(ValueError):

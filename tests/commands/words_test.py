@@ -7,7 +7,7 @@ from program import CommandTest, ran, ran_to
 from sheets import LOW, RECORD, image
 
 with open(os.path.join(os.path.dirname(__file__), "..", "..", "VERSION"), encoding="utf-8") as it:
-    VERSION = f"gs1_hub {it.read().strip()} (rattle logic dac8208d650f15bf)\n"
+    VERSION = rf"gs1_hub {re.escape(it.read().strip())} \(sources [0-9a-f]{{12}}, rattle logic dac8208d650f15bf\)\n"
 
 YEAR = "--year <YEAR> Reference year 1951 to 2149"
 AIS = "--ais <AIS> AIs profile all GS1 General Specifications [default: profile] [possible values: profile, all]"
@@ -195,5 +195,7 @@ class WordsTest(CommandTest):
 
     def test_the_version(self):
         for words in ["--version", "-V"]:
-            self.gives(words, b"", VERSION)
+            status, output, error = ran(words, b"").outcome()
+            self.assertEqual((status, error), (0, ""))
+            self.assertRegex(output.decode(), rf"^{VERSION}$")
         self.is_refused(ran_to(7, "--version", b""), "refused 38 WriteFault", b"gs1_hub")

@@ -4,6 +4,8 @@ Usage: calls_by_ctypes.py LIBRARY [elements]. With `elements` it answers the ele
 by element. Without it the last line is the counts, and the status is 0 if none is wrong.
 """
 import ctypes
+import pathlib
+import re
 import sys
 
 YEAR, EVERY_AI = 2026, 0x8000
@@ -40,6 +42,8 @@ TYPES = {
     + [ctypes.POINTER(ctypes.c_uint32), ctypes.c_size_t] + OUT,
     "gs1_picture_room": [ctypes.c_uint32, ctypes.c_uint32], "gs1_status": LINE, "gs1_next": [ctypes.POINTER(Bytes), ctypes.POINTER(Element)],
 }
+library.gs1_version.restype = ctypes.c_char_p
+VERSION = (pathlib.Path(__file__).resolve().parents[2] / "VERSION").read_text("ascii").strip()
 for name, types in TYPES.items():
     call = getattr(library, name)
     call.argtypes, call.restype = types, ctypes.c_int if name in ("gs1_status", "gs1_next") else ctypes.c_size_t
@@ -97,6 +101,7 @@ def main():
         (asked("gs1_symbol", 2, b"96385074", 8, YEAR)[:20], b"symbol 96385074 7 7 "),
         (asked("gs1_picture", grey, len(grey), 400, 60, 400, 0, YEAR, memory, len(memory)).split(b" ", 8)[8:], [b"56 ]E0 01=09501101530003\n"]),
         (library.gs1_status(b"refused 42 Words", 16), 42),
+        (re.sub("[0-9a-f]{12}", "SUM", library.gs1_version().decode()), f"{VERSION} (sources SUM)"),
         (library.gs1_status(b"hri (10)A", 9), 0),
         (list(elements(b"]C1 10=A=B\t17=261231")), [(b"10", b"A=B"), (b"17", b"261231")]),
         (list(elements(b"refused 3 CheckDigit")), []),

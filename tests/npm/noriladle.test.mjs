@@ -1,9 +1,10 @@
 // Compares the package with the program's answers to the files of the folder GIVEN, and with the values of its README.
 import assert from "node:assert/strict";
 import fs from "node:fs";
+import { createRequire } from "node:module";
 import path from "node:path";
 import test from "node:test";
-import { associations, doubts, load, Refusal } from "noriladle";
+import { associations, doubts, load, Refusal, VERSION } from "noriladle";
 
 const gs1 = await load();
 const linesOf = (name) => fs.readFileSync(path.join(process.env.GIVEN, name), "latin1").split("\n").slice(0, -1);
@@ -31,6 +32,12 @@ const thrown = (ask) => {
     return error;
   }
 };
+
+test("the version", () => {
+  const { version } = createRequire(import.meta.url)("noriladle/package.json");
+  assert.match(VERSION, /^\d+\.\d+\.\d+ \(sources [0-9a-f]{12}\)$/);
+  assert.equal(VERSION.split(" ")[0], version);
+});
 
 test("the examples of the README", () => {
   assert.equal(gs1.checkDigit("950110153000"), 3);

@@ -1,8 +1,8 @@
 //! What `--help` and `--version` print of the program as a whole.
 
-/// The product's version and, in parentheses, the sum of the logic that proves it, with which `rt version`
-/// ends.
-pub const VERSION: &str = "1.1.0 (rattle logic dac8208d650f15bf)";
+/// The product's version; then, in parentheses, the beginning of the sum of its sources, and the sum of the logic
+/// that proves it, with which `rt version` ends. package/prove puts the sum in the place of the zeros.
+pub const VERSION: &str = "2.0.0 (sources 000000000000, rattle logic dac8208d650f15bf)";
 
 /// What the program is for.
 pub const HUB: &str = "Checks, prints and scans GS1 barcodes";
