@@ -4,6 +4,7 @@ time. Makes the pictures of the documents.
 Usage: page_qualities.py PROGRAM WORK EXAMPLES. PROGRAM is gs1_hub, and EXAMPLES the folder for the pictures. Its last line is the counts.
 """
 import base64
+import csv
 import functools
 import gzip
 import http.server
@@ -481,9 +482,9 @@ def photographed(sheet):
 
 def leaves_pictures():
     """The pictures of the documents: each task on a desk and on a telephone."""
-    names = ["Oat biscuits", "Rye bread", "Apple juice 1 l", "Butter 250 g", "Lüneburg heather honey, creamed, 500 g", "Chewing gum", "Cola 0.5 l", "Muesli, unsweetened, 750 g",
-             "Gouda, young, sliced, 48 % fat", "Salt", "Olive oil"]
-    rows = [(number, names[i % len(names)], price.replace(",", ".")) for i, (number, _, price) in enumerate(articles(22))]
+    with open(f"{ROOT}/examples/shelf.csv", encoding="utf-8", newline="") as file:
+        goods = [(it["name"], f"{it['price']} €") for it in csv.DictReader(file)]
+    rows = [(number, *it) for (number, _, _), it in zip(articles(22), [*goods, ("Milk 1 l", "1.19 €")])]
     rows[3] = (f"{rows[3][0][:-1]}5", *rows[3][1:])
     text = listed([*rows, ("4.01235E+12", "Orange juice", "1.00 €")])
     for name, language, size in (("desk", "en", {"width": 1280, "height": 860}), ("telephone", "en", {"width": 390, "height": 844, "mobile": True})):
