@@ -37,8 +37,10 @@ async function makeLabels() {
   const turn = ++shop.turns, from = performance.now(), stock = stockChosen();
   at("own-fault").textContent = stock ? "" : t("ownFault");
   if (!stock) return;
-  const dpi = dpiFor(stock), cell = cellOf(stock, DOTS_IN_MM[dpi]), { articles, columns, notes, question } = listRead();
-  const items = [], labels = [], faults = [], each = eachInTime(turn, from);
+  const dpi = dpiFor(stock), cell = cellOf(stock, DOTS_IN_MM[dpi]), { articles: all, columns, notes, question } = listRead();
+  const items = [], labels = [], faults = [], each = eachInTime(turn, from), { articles, missing } = scannedOf(all);
+  keepList();
+  showScanned(question ? [] : missing);
   showQuestion(question);
   showNotes(notes);
   showColumns(columns);

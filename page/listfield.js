@@ -266,6 +266,7 @@ async function takeList(file) {
 function setList(text, file = null) {
   at("list-fault").textContent = "";
   Object.assign(asked, { columns: {}, isFree: false, file, isMended: false });
+  wantedGtins = null;
   fillList(text);
   shop.page = 0;
   makeAgain();
@@ -276,6 +277,22 @@ function fillList(text) {
   at("list").value = text.replace(/\r\n?/g, "\n");
   const lines = at("list").value.split("\n").filter((line) => line.trim());
   asked.ends = lines.length ? [lines[0], lines.at(-1)] : [];
+}
+
+// Keeps the list in this browser for the next time, unless a question about its letters is open.
+function keepList() {
+  const { text } = listTyped(), { isSheet, faults, notes, question } = fileListed() ?? {};
+  const file = fileListed() ? { isSheet, faults, notes } : null;
+  memory.set("list", text && !question ? JSON.stringify({ text, file }) : "");
+}
+
+function takeKept() {
+  try {
+    const { text, file } = JSON.parse(memory.get("list") || "{}");
+    if (!text) return;
+    asked.file = file;
+    fillList(text);
+  } catch { /* It is no list of this page. */ }
 }
 
 function listenToList() {

@@ -56,12 +56,13 @@ async function start() {
   const bits = [64, 32].find((width) => built[width] && Gs1.runs(width));
   if (!bits || typeof CompressionStream !== "function" || typeof OffscreenCanvas !== "function" || !Array.prototype.toSorted) return stop(t("oldBrowser"));
   gs1 = await Gs1.load(Uint8Array.from(atob(built[bits]), (c) => c.charCodeAt(0)), bits);
-  for (const listen of [listenToTabs, listenToList, listenToLabels, listenToCheck, listenToRead, listenToCamera]) listen();
+  for (const listen of [listenToTabs, listenToList, listenToScanned, listenToLabels, listenToCheck, listenToRead, listenToCamera]) listen();
   for (const form of document.forms) form.addEventListener("submit", (event) => event.preventDefault());
   for (const field of document.querySelectorAll("[data-year]")) {
     field.value = core.year;
     field.addEventListener("input", changeYear);
   }
+  takeKept();
   changeLanguage(language);
   at("own").hidden = at("stock").value !== "own";
   showTask(firstTask());

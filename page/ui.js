@@ -8,10 +8,10 @@ const at = (id) => document.getElementById(id);
 const LANGUAGES = Object.keys(TEXTS);
 let language = "en";
 
-// What the page remembers. A private window may remember nothing.
+// What the page remembers. A private window may remember nothing, and what is too long is forgotten whole.
 const memory = {
   get(key) { try { return localStorage.getItem(`noriladle.${key}`); } catch { return null; } },
-  set(key, value) { try { localStorage.setItem(`noriladle.${key}`, value); } catch { /* It is forgotten. */ } },
+  set(key, value) { try { localStorage.removeItem(`noriladle.${key}`), localStorage.setItem(`noriladle.${key}`, value); } catch { /* It is forgotten. */ } },
 };
 
 const filledText = (text, values) => text.replace(/\{(\d)\}/g, (_, i) => values[i] ?? "");

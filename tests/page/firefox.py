@@ -14,7 +14,7 @@ KEYS = {"Tab": "\ue004", "Enter": "\ue007", "ArrowRight": "\ue014", "ArrowLeft":
 class Firefox:
     """A browser with one page open. `close` ends it and removes its profile."""
 
-    def __init__(self, url, width=1280, height=900, language="en-GB", folder="."):
+    def __init__(self, url, width=1280, height=900, language="en-GB", folder=".", insecure=False):
         self._profile = tempfile.mkdtemp()
         with socket.create_server(("127.0.0.1", 0)) as free:
             port = free.getsockname()[1]
@@ -28,9 +28,13 @@ class Firefox:
                                          stdout=subprocess.DEVNULL, stderr=subprocess.DEVNULL)
         self._socket, self._left, self._number = self._connected(port), b"", 0
         self._read()
-        self._call("WebDriver:NewSession", capabilities={"alwaysMatch": {"acceptInsecureCerts": False}})
+        self._call("WebDriver:NewSession", acceptInsecureCerts=insecure)
         self._call("WebDriver:SetTimeouts", script=120000, pageLoad=120000)
         self._call("WebDriver:SetWindowRect", width=width, height=height)
+        self.go(url)
+
+    def go(self, url):
+        """Opens a page, and waits until it has started."""
         self._call("WebDriver:Navigate", url=url)
         self.until("document.readyState === 'complete' && !!document.started && !document.getElementById('old')")
 
