@@ -3,7 +3,7 @@ use Rattle.std.proofs.Common.{◌≡◌, ◌∙◌, ◌+◌, ◌*◌, ◌<◌, �
 use Rattle.std.proofs.lemmas.List.{append-nil, map-append}
 use Rattle.digits_core.specs.Buffers.{pasted}
 use Rattle.digits_core.proofs.Pasted.{pasted_none}
-use Rattle.scan_core.specs.Windows.{AreTold, IsNext, IsOver, Search, search_after}
+use Rattle.scan_core.specs.Windows.{AreTold, IsNextWindow, IsOver, Search, search_after}
 use Rattle.scan_core.specs.declared.window.Window.{Window}
 use Rattle.gs1_c.specs.Found.{ArePut, fitting, symbol_line}
 use Rattle.gs1_c.proofs.LinesThatFit.{all_of, all_of-push, few_steps, fewer_steps, one_line, small_enough, small_more, steps_left}
@@ -30,7 +30,7 @@ told_room from now end old out few t =
     (few_steps (length from.runs + 1) from.first from.least (omega arith))
 
 -- what is left gets less
-pub left_less : (now next : Search) (w : Window) → IsNext now w → next ≡ search_after now w → left_of next < left_of now
+pub left_less : (now next : Search) (w : Window) → IsNextWindow now w → next ≡ search_after now w → left_of next < left_of now
 left_less now next w n e =
     let within = n.symbol.within in
     subst (λ (r : Search). left_of r < left_of now) (sym e) (fewer_steps (length now.runs + 1) now.first now.least w.first w.count (omega arith) n.left)
@@ -43,7 +43,7 @@ pub record IsLinePut (w : Window) (at end : ℕ) (old new : List ℕ) : Type 0 w
   pub unchanged : length old < at + length (symbol_line w) → new ≡ old
   pub long : length new ≡ length old
 
-pub told_more : (from now next : Search) (w : Window) (end after : ℕ) (old out new : List ℕ) → Told from now end old out → IsNext now w
+pub told_more : (from now next : Search) (w : Window) (end after : ℕ) (old out new : List ℕ) → Told from now end old out → IsNextWindow now w
     → next ≡ search_after now w → IsLinePut w end after out new → Told from next after old new
 told_more from now next w end after old out new i n e p =
     let t = i.told in

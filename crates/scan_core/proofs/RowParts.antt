@@ -8,7 +8,7 @@ use Rattle.std.proofs.lemmas.List.Sums.{sum_by-take-drop}
 use Rattle.scan_core.specs.Answers.{IsAnswer}
 use Rattle.scan_core.specs.Bits.{dot_at, dots_at}
 use Rattle.scan_core.specs.Row.{IsRow, dots_from, dots_of}
-use Rattle.scan_core.specs.Windows.{IsLeft, IsNext, IsOver, IsSymbolOf, Search, runs_in}
+use Rattle.scan_core.specs.Windows.{IsLeft, IsNextWindow, IsOver, IsSymbolOf, Search, runs_in}
 use Rattle.scan_core.specs.declared.answer.Answer.TheVariants.{Read}
 use Rattle.scan_core.specs.declared.window.Window.{Window}
 use Rattle.scan_core.specs.DotRuns.{runs_of_dots}
@@ -79,9 +79,9 @@ module _ (runs : List ℕ) (year : Terms) (before n : ℕ) (light : before % 2 �
   ]
 
   -- the next symbol of the part is the next of the row, where those that would come before it lie in the part
-  pub next_of_row : (first least : ℕ) (w : Window) → IsNext (record { runs = runs_in runs before n; year = year; first = first; least = least }) w
+  pub next_of_row : (first least : ℕ) (w : Window) → IsNextWindow (record { runs = runs_in runs before n; year = year; first = first; least = least }) w
       → ((v : Window) → IsSymbolOf runs year v → v.first ≤ before + w.first → v.first + v.count ≤ before + n)
-      → IsNext (record { runs = runs; year = year; first = before + first; least = least }) (shifted before w)
+      → IsNextWindow (record { runs = runs; year = year; first = before + first; least = least }) (shifted before w)
   next_of_row first least w next reach = record {
     symbol = to_row w next.symbol;
     left = elim next.left [
@@ -251,11 +251,11 @@ module _ (bits : List ℕ) (width : ℕ) (year : Terms) (few : width ≤ 65535) 
       let counted = odd_count p.runs.more (length items) (length runs - p.before) count is.first.cut (omega arith) in
       subst IsRow (sym is.first.front) (IsRow-runs_in runs p.before (length items) whole_row inside counted)
 
-  pub next_in_row : (first least : ℕ) (w : Window) → IsNext (here first least) w → (p.runs.more ≡ true → w.first ≤ 598)
-      → IsNext (there first least) (shifted p.before w)
+  pub next_in_row : (first least : ℕ) (w : Window) → IsNextWindow (here first least) w → (p.runs.more ≡ true → w.first ≤ 598)
+      → IsNextWindow (there first least) (shifted p.before w)
   next_in_row first least w next early =
       next_of_row runs year p.before (length items) is.light inside first least w
-      (subst (λ ws. IsNext (record { runs = ws; year = year; first = first; least = least }) w) is.first.front next)
+      (subst (λ ws. IsNextWindow (record { runs = ws; year = year; first = first; least = least }) w) is.first.front next)
       (λ v s le. reach_end p.runs.more p.before (length items) (length runs) v.first v.count w.first count is.first.cut early le
       (window_counts runs year whole_row v s).1 s.within is.within)
 

@@ -1,7 +1,7 @@
 -- Searches that go on.
 use Rattle.std.proofs.Common.{◌≡◌, ◌⊎◌, ◌+◌, ◌<◌, ◌≤◌, ℕ, IfNone, Option, Some, None, arith, inl, inr, sym}
 use Rattle.std.proofs.lemmas.Bool.{cases_lt}
-use Rattle.scan_core.specs.Windows.{IsLeft, IsNext, IsOver, IsSymbolOf, Search}
+use Rattle.scan_core.specs.Windows.{IsLeft, IsNextWindow, IsOver, IsSymbolOf, Search}
 use Rattle.scan_core.specs.declared.symbols.Span.{Span}
 use Rattle.scan_core.specs.declared.window.Window.{Window}
 use Rattle.scan_core.specs.inner.Searches.{IsNextPlace}
@@ -13,7 +13,7 @@ none_then (Some x) p f = tt
 -- the next symbol of what is left now is that of what was left
 pub earlier : (s : Search) (first least : ℕ) (w : Window) → (s.first < first) ⊎ ((s.first ≡ first) × (s.least ≤ least))
     → ((v : Window) → IsSymbolOf s.runs s.year v → IsLeft s v → IsLeft (record { runs = s.runs; year = s.year; first = first; least = least }) v)
-    → IsNext (record { runs = s.runs; year = s.year; first = first; least = least }) w → IsNext s w
+    → IsNextWindow (record { runs = s.runs; year = s.year; first = first; least = least }) w → IsNextWindow s w
 earlier s first least w behind passed next = record {
   symbol = next.symbol;
   left = elim behind [

@@ -53,7 +53,7 @@ abbrev pub IsLeft : Search → Window → Type 0
 IsLeft s w = (s.first < w.first) ⊎ ((s.first ≡ w.first) × (s.least ≤ w.count))
 
 -- this symbol is the next one
-pub record IsNext (s : Search) (w : Window) : Type 0 where
+pub record IsNextWindow (s : Search) (w : Window) : Type 0 where
   pub symbol : IsSymbolOf s.runs s.year w
   pub left : IsLeft s w
   pub none_before : (v : Window) → IsSymbolOf s.runs s.year v → IsLeft s v → ComesBefore v w → ⊥
@@ -69,7 +69,7 @@ search_after s w = record { runs = s.runs; year = s.year; first = w.first; least
 -- the search finds these windows, one after the other, and then is over
 abbrev pub AreTold : Search → List Window → Type 0
 AreTold s [] = IsOver s
-AreTold s (w ∷ ws) = IsNext s w × AreTold (search_after s w) ws
+AreTold s (w ∷ ws) = IsNextWindow s w × AreTold (search_after s w) ws
 
 -- ---- laws
 

@@ -2,7 +2,7 @@
 ghost use Rattle.std.specs.Prelude.{◌≡◌, ◌≤◌, ◌+◌, ◌*◌, ◌%◌, IfNone, IfSome, length, true};
 ghost use Rattle.scan_core.specs.Bits.{dots_at};
 ghost use Rattle.scan_core.specs.Row.{IsRow, dots_of};
-ghost use Rattle.scan_core.specs.Windows.{IsLeft, IsNext, IsOver, IsSymbolOf, search_after, search_of};
+ghost use Rattle.scan_core.specs.Windows.{IsLeft, IsNextWindow, IsOver, IsSymbolOf, search_after, search_of};
 ghost use Rattle.scan_core.specs.DotRuns.{runs_of_dots};
 ghost use Rattle.scan_core.specs.inner.Parts.{IsPart, shifted};
 
@@ -51,7 +51,7 @@ impl Section {
 fn next_early(runs: &FirstRuns, first: usize, least: usize, year: Year) -> Option<Window>
     requires row { IsRow runs.now.widths.items }
     requires light { first % 2 ≡ 0 }
-    ensures next { IfSome result (λ w. IsNext (record { runs = runs.now.widths.items; year = year; first = first; least = least }) w) }
+    ensures next { IfSome result (λ w. IsNextWindow (record { runs = runs.now.widths.items; year = year; first = first; least = least }) w) }
     ensures early { IfSome result (λ w. w.first ≤ 598) }
     ensures none { IfNone result ((v : Window) → IsSymbolOf runs.now.widths.items year v
         → IsLeft (record { runs = runs.now.widths.items; year = year; first = first; least = least }) v → v.first ≤ 598 → ⊥) }
@@ -84,7 +84,7 @@ fn next_in_parts(
     ensures light { IfSome result (λ w. w.first % 2 ≡ 0) }
     ensures early { part.new.runs.more ≡ true → IfSome result (λ w. w.first ≤ 598) }
     ensures last { part.new.runs.more ≡ true → IfNone result ⊥ }
-    ensures next { IfSome result (λ w. IsNext (record { runs = runs_of_dots (dots_at bits.now 0 width); year = year; first = part.old.before + first; least = least })
+    ensures next { IfSome result (λ w. IsNextWindow (record { runs = runs_of_dots (dots_at bits.now 0 width); year = year; first = part.old.before + first; least = least })
         (shifted part.new.before w)) }
     ensures over { IfNone result (IsOver (record { runs = runs_of_dots (dots_at bits.now 0 width); year = year; first = part.old.before + first; least = least })) }
 {

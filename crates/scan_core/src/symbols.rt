@@ -3,7 +3,7 @@ ghost use Rattle.std.specs.Prelude.{None, ◌≡◌, ◌⊎◌, ◌<◌, ◌+◌
 ghost use Rattle.scan_core.specs.Row.{IsRow, runs_fault};
 ghost use Rattle.scan_core.specs.Showing.{HasSize, kind_of};
 ghost use Rattle.scan_core.specs.inner.Searches.{AreNoneShorter, HasRun, IsNextPlace, MayEnd};
-ghost use Rattle.scan_core.specs.Windows.{IsNext, IsOver, IsSymbolOf, search_after, search_of};
+ghost use Rattle.scan_core.specs.Windows.{IsNextWindow, IsOver, IsSymbolOf, search_after, search_of};
 ghost use Rattle.element_core.specs.Terms.{Terms};
 
 use crate::answer::{Answer, found_in};
@@ -213,7 +213,7 @@ fn first_read(widths: &[u16], place: Span, year: Year, rest: &mut Rest) -> Optio
     requires begins_light { place.first % 2 ≡ 0 }
     requires ends_light { place.count % 2 ≡ 1 }
     requires within { place.first + place.count ≤ length widths.now }
-    ensures next { IfSome result (λ w. IsNext (record { runs = widths.now; year = year; first = place.first; least = place.count }) w) }
+    ensures next { IfSome result (λ w. IsNextWindow (record { runs = widths.now; year = year; first = place.first; least = place.count }) w) }
     ensures after { IfSome result (λ w. rest.new ≡ record { first = w.first; least = w.count + 1 }) }
     ensures over { IfNone result (IsOver (record { runs = widths.now; year = year; first = place.first; least = place.count })) }
     ensures unchanged { IfNone result (rest.new ≡ rest.old) }
@@ -246,7 +246,7 @@ fn first_read(widths: &[u16], place: Span, year: Year, rest: &mut Rest) -> Optio
 pub(crate) fn next_window(widths: &[u16], rest: &mut Rest, year: Year) -> Option<Window>
     requires row { IsRow widths.now }
     requires light { rest.old.first % 2 ≡ 0 }
-    ensures next { IfSome result (λ w. IsNext (record { runs = widths.now; year = year; first = rest.old.first; least = rest.old.least }) w) }
+    ensures next { IfSome result (λ w. IsNextWindow (record { runs = widths.now; year = year; first = rest.old.first; least = rest.old.least }) w) }
     ensures after { IfSome result (λ w. rest.new ≡ record { first = w.first; least = w.count + 1 }) }
     ensures over { IfNone result (IsOver (record { runs = widths.now; year = year; first = rest.old.first; least = rest.old.least })) }
     ensures unchanged { IfNone result (rest.new ≡ rest.old) }
@@ -280,7 +280,7 @@ impl<'a> SymbolSearch for Symbols<'a> {
     ghost rest = { λ s. s };
 
     fn next_symbol(&mut self) -> Option<Window>
-        ensures next { IfSome result (λ w. IsNext self.old w) }
+        ensures next { IfSome result (λ w. IsNextWindow self.old w) }
         ensures after { IfSome result (λ w. self.new ≡ search_after self.old w) }
         ensures over { IfNone result (IsOver self.old) }
         ensures stays { IfNone result (IsOver self.new) }

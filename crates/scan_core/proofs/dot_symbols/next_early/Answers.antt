@@ -1,6 +1,6 @@
 use Rattle.std.proofs.Common.{inl, arith, subst, sym}
 use Rattle.scan_core.specs.Row.{IsRow}
-use Rattle.scan_core.specs.Windows.{IsNext, IsOver}
+use Rattle.scan_core.specs.Windows.{IsNextWindow, IsOver}
 use Rattle.scan_core.proofs.dot_symbols.next_early.Goals as goal
 
 pub next_window-requires-clause-row : goal.next_window-requires-clause-row
@@ -23,7 +23,7 @@ returns-in_err-window-clause-none c =
 
 pub returns-then-window-le-LAST_FIRST-clause-next : goal.returns-then-window-le-LAST_FIRST-clause-next
 returns-then-window-le-LAST_FIRST-clause-next c =
-    subst (λ r. IsNext (record { runs = r; year = c.args.year; first = c.args.first; least = c.args.least }) c.in_ok-window.window) c.as_slice.ensures.value
+    subst (λ r. IsNextWindow (record { runs = r; year = c.args.year; first = c.args.first; least = c.args.least }) c.in_ok-window.window) c.as_slice.ensures.value
     c.in_ok-window.ensures.next
 
 pub returns-then-window-le-LAST_FIRST-clause-early : goal.returns-then-window-le-LAST_FIRST-clause-early
@@ -31,6 +31,6 @@ returns-then-window-le-LAST_FIRST-clause-early c = c.if-window-le-LAST_FIRST.tru
 
 pub returns-else-window-le-LAST_FIRST-clause-none : goal.returns-else-window-le-LAST_FIRST-clause-none
 returns-else-window-le-LAST_FIRST-clause-none c =
-    let next = subst (λ r. IsNext (record { runs = r; year = c.args.year; first = c.args.first; least = c.args.least }) c.in_ok-window.window)
+    let next = subst (λ r. IsNextWindow (record { runs = r; year = c.args.year; first = c.args.first; least = c.args.least }) c.in_ok-window.window)
     c.as_slice.ensures.value c.in_ok-window.ensures.next in
     λ v symbol left early. next.none_before v symbol left (inl (omega arith))

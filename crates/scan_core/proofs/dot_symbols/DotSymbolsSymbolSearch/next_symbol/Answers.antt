@@ -2,7 +2,7 @@ use Rattle.std.proofs.Common.{◌≡◌, ◌∙◌, ◌+◌, ◌*◌, ◌≤◌,
 use Rattle.scan_core.specs.Bits.{dots_at}
 use Rattle.scan_core.specs.DotRuns.{runs_of_dots}
 use Rattle.scan_core.specs.Searches.{search_in_dots}
-use Rattle.scan_core.specs.Windows.{IsNext, IsOver, Search, search_after}
+use Rattle.scan_core.specs.Windows.{IsNextWindow, IsOver, Search, search_after}
 use Rattle.scan_core.specs.declared.window.Window.{Window}
 use Rattle.scan_core.specs.inner.Parts.{IsPart, shifted}
 use Rattle.scan_core.proofs.RowParts.{row_of_dots}
@@ -36,7 +36,7 @@ next_in_parts-found-requires-clause-early c = c.self.invariant.early
 
 -- a window lies in the row, and so has few runs
 few_runs : (bits : List ℕ) (n : ℕ) (s : Search) (w : Window) (before : ℕ) → n ≤ 65535 → s.runs ≡ runs_of_dots (dots_at bits 0 n)
-    → IsNext s (shifted before w) → before + w.first + w.count ≤ 65537
+    → IsNextWindow s (shifted before w) → before + w.first + w.count ≤ 65537
 few_runs bits n s w before few is next =
     let row = row_of_dots bits n few in
     let short = row_short (runs_of_dots (dots_at bits 0 n)) row.0 in
@@ -89,10 +89,10 @@ returns-in-Some-clause-next c =
     let before = c.next_in_parts-found.new.part.before in
     let same : before + w.first ≡ w.first + before = omega arith in
     let next = told _ c.next_in_parts-found.result w c.in-Some.is c.next_in_parts-found.ensures.next in
-    let here = subst (λ n. IsNext (record { runs = runs_of_dots (dots_at s.bits.now 0 n); year = s.year; first = s.part.before + s.first; least = s.least })
+    let here = subst (λ n. IsNextWindow (record { runs = runs_of_dots (dots_at s.bits.now 0 n); year = s.year; first = s.part.before + s.first; least = s.least })
     (shifted before w)) c.from.ensures next in
-    let there = subst (λ r. IsNext r (shifted before w)) c.self.view_is here in
-    subst (λ n. IsNext c.args.self.now (record { first = n; count = w.count; carrier = w.carrier; elements = w.elements })) same there
+    let there = subst (λ r. IsNextWindow r (shifted before w)) c.self.view_is here in
+    subst (λ n. IsNextWindow c.args.self.now (record { first = n; count = w.count; carrier = w.carrier; elements = w.elements })) same there
 
 pub returns-in-Some-clause-after : goal.returns-in-Some-clause-after
 returns-in-Some-clause-after c =
