@@ -2,11 +2,12 @@
 pub use Rattle.std.specs.List.{AllByRecursion, AllZip}
 pub use Rattle.digits_core.specs.Digits.{AreAsciiDigits, AreDigits, IsChecked, digits_of}
 pub use Rattle.digits_core.specs.Upce.{IsUpceOf}
-pub use Rattle.element_core.specs.Elements.{Entry, IsElements, gtin_entry, pairs_text}
-pub use Rattle.element_core.specs.Lines.{line_text}
+pub use Rattle.element_core.specs.Elements.{Entry, IsElements, gtin_entry}
 pub use Rattle.element_core.specs.Terms.{Terms, every_ai, profile}
-pub use Rattle.message_core.specs.Laws.{IsRefusedBy, MessageSays}
-pub use Rattle.message_core.specs.Messages.{IsMessageLine}
+pub use Rattle.message_core.specs.Faults.{heard}
+pub use Rattle.message_core.specs.Laws.{MessageSays}
+pub use Rattle.message_core.specs.Messages.{IsMessage, Outcome}
+pub use Rattle.message_core.specs.declared.head.Head.{Head}
 pub use Rattle.ean_code.specs.Symbols.{IsCheckedPlace, widths_of}
 pub use Rattle.ean_code.specs.declared.kind.Kind.{Kind}
 pub use Rattle.code128_code.specs.Symbols.{IsCode128Symbol, characters_of, mod103}
@@ -40,7 +41,7 @@ pub use Rattle.csv_records.specs.lanes.Feeds.{LaneRow, feeds_of, lanes_meaning}
 pub use Rattle.command_runs.specs.live.Laws.{IsPlain, IsReordered, record_lines}
 pub use Rattle.command_runs.specs.live.Replies.{most_rows}
 pub use Rattle.command_runs.specs.live.Text.{Answers, fields_in}
-pub use Rattle.element_core.specs.declared.form.Form.TheVariants.{HumanReadable, Pairs}
+pub use Rattle.element_core.specs.declared.form.Form.TheVariants.{HumanReadable}
 pub use Rattle.command_runs.specs.Printed.{AreScanned, SaysElements, labels_answers}
 use Rattle.std.specs.Prelude.{◌≡◌, ◌≢◌, ◌<◌, ◌≤◌, ◌⊎◌, ◌++◌, ◌∷◌, [], ℕ, List, Result, Ok, Err, Some, length, slice_index, slice_index_or, slice_set}
 use Rattle.ean_code.specs.Spelling.{IsGtinOf}
@@ -119,12 +120,6 @@ pub record ShowsDrawn (g : Cells) (label : Label) (row : List ℕ) : Type 0 wher
   pub fits : FitsCell g drawn
   pub row_is : IsRow row
   pub dots : dots_of row ≡ bar_dots g drawn
-
--- of one line, two texts say the same elements, or are refused alike
-abbrev pub AreAlike : Terms → List ℕ → List ℕ → List ℕ → Type 0
-AreAlike year text more line =
-    ((word : List ℕ) × (es : List Entry) × (line ≡ word ++ (32 ∷ pairs_text es)) × MessageSays year text word es × MessageSays year more word es)
-    ⊎ (IsRefusedBy year text line × IsRefusedBy year more line)
 
 -- these are the answers of what a lane has polled, and then of its list
 abbrev pub AnswerLane : Lane → List (List Plain) → List Said → Type 0

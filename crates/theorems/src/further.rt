@@ -1,10 +1,11 @@
 //! Theorems more: a check digit, the profile, scanner texts, a drawn label without its sheet, and the call that the program makes.
-ghost use Rattle.std.specs.Prelude.{◌≡◌, ◌↔◌, ◌<◌, ◌≤◌, ◌-◌, ◌++◌, ◌∷◌, ℕ, [], IfOk, List, codes, length, map};
-ghost use Rattle.theorems.specs.Words.{AllZip, AreAlike, AreAnswersOf, AreAsciiDigits, Cells, Entry, IsAnswer, IsChecked, IsElements, IsMessageLine, IsUpceOf, Label, MessageSays, Pairs, Reads, Said, ShowsDrawn, Terms, digits_of, every_ai, gtin_entry, label_answer, label_text, line_text, profile, served};
+ghost use Rattle.std.specs.Prelude.{◌≡◌, ◌↔◌, ◌<◌, ◌≤◌, ◌-◌, ◌++◌, ◌∷◌, ℕ, [], IfOk, List, Option, codes, length, map};
+ghost use Rattle.theorems.specs.Words.{AllZip, AreAnswersOf, AreAsciiDigits, Cells, Entry, Head, IsAnswer, IsChecked, IsElements, IsMessage, IsUpceOf, Label, MessageSays, Outcome, Reads, Said, ShowsDrawn, Terms, digits_of, every_ai, gtin_entry, heard, label_answer, label_text, profile, served};
 
-use element_core::{Form, Line, Year};
+use element_core::Year;
 use hub_core::{Gate, ServeFault};
 use lane_core::Delivery;
+use message_core::Message;
 use scan_core::Runs;
 use std::alloc::Global;
 use std::sync::Wait;
@@ -28,19 +29,15 @@ pub fn profile_within()
     element_core::profile_within();
 }
 
-/// A scanner text has exactly one answer line. Texts with one line of pairs say the same elements, or are refused alike. The eight
-/// digits under a UPC-E symbol, behind `]E0`, say the GTIN that the symbol carries.
-pub fn message_line(form: Form, text: &[u8], year: Year) -> Line
-    ensures one { (line : List ℕ) → IsMessageLine form year text.now line ↔ (line ≡ line_text result) }
-    ensures pairs { (year : Terms) (text more line : List ℕ) → IsMessageLine Pairs year text line → IsMessageLine Pairs year more line
-        → AreAlike year text more line }
+/// A scanner text has exactly one meaning. The eight digits under a UPC-E symbol, behind `]E0`, say the GTIN that the symbol carries.
+pub fn read_message(text: &[u8], year: Year) -> Message
+    ensures one { (head : Option Head) (told : Outcome) → IsMessage year text.now head told ↔ ((head ≡ result.head) × (told ≡ heard result.said)) }
     ensures upce { (year : Terms) (six gtin : List ℕ) (check : ℕ) → AreAsciiDigits six → (48 ≤ check) × (check < 58) → IsUpceOf (digits_of six) (check - 48) gtin
         → MessageSays year (codes "]E0" ++ (48 ∷ six) ++ check ∷ []) (codes "]E0") (gtin_entry gtin ∷ []) }
 {
-    message_core::one_message_line();
-    message_core::pairs_say_elements();
+    message_core::one_message();
     message_core::upce_is_expanded();
-    message_core::message_line(form, text, year)
+    message_core::read_message(text, year)
 }
 
 /// A row with the dots of what is drawn of a label answers that label, and nothing else.
