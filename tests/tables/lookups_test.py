@@ -22,7 +22,7 @@ class LookupsTest(unittest.TestCase):
         with tempfile.TemporaryDirectory() as name:
             copy = pathlib.Path(name)
             shutil.copytree(ROOT / "tables", copy / "tables")
-            for crate in ["ean_code", "code128_code"]:
+            for crate in ["ean_code", "code128_code", "csv_records"]:
                 shutil.copytree(ROOT / "crates" / crate / "src", copy / "crates" / crate / "src")
             source = copy / "crates" / "code128_code" / "src" / "lookup.rt"
             source.write_text(source.read_text(encoding="utf-8").replace(" 92, ", " 93, ", 1), encoding="utf-8")

@@ -1,3 +1,5 @@
 //! Records that are scanned: a lane, and the widths of a row.
 pub mod feeds;
+mod gather;
+mod short_widths;
 pub mod widths;

@@ -16,15 +16,15 @@ use Rattle.csv_records.specs.lanes.Widths.{are_widths, is_number, words_of}
 use Rattle.csv_records.proofs.Decimals.{digit_differs, digit_range, few_digits}
 
 -- a digit is no space
-no_space : (c : ℕ) → is_ascii_digit c ≡ true → (c == 32) ≡ false
+pub no_space : (c : ℕ) → is_ascii_digit c ≡ true → (c == 32) ≡ false
 no_space c digit = digit_differs c 32 digit refl
 
 -- so digits have no space among them
-no_spaces : (ds : List ℕ) → list_all is_ascii_digit ds ≡ true → All (λ b. (b == 32) ≡ false) ds
+pub no_spaces : (ds : List ℕ) → list_all is_ascii_digit ds ≡ true → All (λ b. (b == 32) ≡ false) ds
 no_spaces ds all = All-weaker (λ b. is_ascii_digit b ≡ true) (λ b. (b == 32) ≡ false) no_space ds (AllPass-from_list_all is_ascii_digit ds all)
 
 -- one to five digits are a number
-digits_are_number : (word : List ℕ) → list_all is_ascii_digit word ≡ true → 0 < length word → length word ≤ 5 → is_number 5 word ≡ true
+pub digits_are_number : (word : List ℕ) → list_all is_ascii_digit word ≡ true → 0 < length word → length word ≤ 5 → is_number 5 word ≡ true
 digits_are_number word all some few = rw (le-leb 1 (length word) some, le-leb (length word) 5 few, all) refl
 
 -- a text is what stands before one of its bytes, this byte, and what stands behind it

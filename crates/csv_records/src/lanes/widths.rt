@@ -1,5 +1,5 @@
 //! Reads fields: a number of a few digits, and the widths of a row.
-ghost use Rattle.std.specs.Prelude.{None, Some, ◌==◌, ◌≡◌, ◌≤◌, ◌*◌, ◌-◌, true, false, length, ◌<◌, IfNone, IfOk, IfSome, List, OnOk, ℕ};
+ghost use Rattle.std.specs.Prelude.{None, Some, ◌==◌, ◌≡◌, ◌≤◌, ◌*◌, ◌-◌, true, false, length, ◌<◌, IfNone, IfOk, IfSome, List, OnOk, [], ℕ};
 ghost use Rattle.std.specs.List.{count_by};
 ghost use Rattle.std.specs.Char.{is_ascii_digit};
 ghost use Rattle.csv_records.specs.inner.FrontWidths.{BeginsWithDigits, IsFirstWidth, capped, has_wide};
@@ -7,6 +7,7 @@ ghost use Rattle.csv_records.specs.lanes.Widths.{number_in, are_widths, field_fa
 ghost use Rattle.csv_records.specs.declared.input.fault.RecordFault.{RecordFault};
 
 use crate::input::fault::{RecordFault, RecordRefusal};
+use crate::lanes::short_widths::read_short_widths;
 use scan_core::{RowPool, RunFault, Runs};
 
 /// The number that a text of one to `most` digits shows. `most` is at most 5, since the proof bounds the number by
@@ -128,9 +129,10 @@ fn digits<const N: usize>(text: &[u8]) -> Option<[u16; N]>
     each.then_some(widths)
 }
 
-/// The widths that a field shows, each above 65,535 as 65,535 to fit its `u16`, and whether there is one above. The
-/// clause `refused` is that of `read_runs`.
-fn read_widths(pool: &mut RowPool, field: &[u8]) -> Result<(Vec<u16>, bool), RecordRefusal>
+/// The widths that a field shows, read word by word into empty memory, each above 65,535 as 65,535 to fit its `u16`, and
+/// whether there is one above. The clause `refused` is that of `read_runs`.
+fn read_any_widths(room: Vec<u16>, field: &[u8]) -> Result<(Vec<u16>, bool), RecordRefusal>
+    requires empty { room.items ≡ [] }
     ensures words { OnOk result (are_widths (words_of field.now) ≡ true) }
     ensures widths { IfOk result (λ read. read.0.items ≡ capped (widths_in field.now)) }
     ensures wide { IfOk result (λ read. read.1 ≡ has_wide (widths_in field.now)) }
@@ -138,7 +140,7 @@ fn read_widths(pool: &mut RowPool, field: &[u8]) -> Result<(Vec<u16>, bool), Rec
         → field_fault field.now ≡ Some f }
 {
     let count = count_words(field);
-    let mut widths = pool.take_widths();
+    let mut widths = room;
     widths.reserve(count)?;
     let mut rest = field;
     let mut is_wide = false;
@@ -161,6 +163,21 @@ fn read_widths(pool: &mut RowPool, field: &[u8]) -> Result<(Vec<u16>, bool), Rec
         };
     }
     Ok((widths, is_wide))
+}
+
+/// The widths that a field shows, as `read_any_widths` reads them.
+fn read_widths(pool: &mut RowPool, field: &[u8]) -> Result<(Vec<u16>, bool), RecordRefusal>
+    ensures words { OnOk result (are_widths (words_of field.now) ≡ true) }
+    ensures widths { IfOk result (λ read. read.0.items ≡ capped (widths_in field.now)) }
+    ensures wide { IfOk result (λ read. read.1 ≡ has_wide (widths_in field.now)) }
+    ensures refused { (f : RecordFault) → result ≡ Err (RecordRefusal.Record f)
+        → field_fault field.now ≡ Some f }
+{
+    let mut widths = pool.take_widths();
+    if read_short_widths(&mut widths, field)? {
+        return Ok((widths, false));
+    }
+    read_any_widths(widths, field)
 }
 
 /// The row that a field shows.

@@ -3,7 +3,7 @@ use Rattle.std.proofs.Common.{◌-◌, ◌≤◌, length}
 use Rattle.std.specs.Vec.{vec_capacity}
 use Rattle.csv_records.specs.lanes.Widths.{words_of}
 use Rattle.csv_records.proofs.lanes.FieldWords.{AreRead}
-use Rattle.csv_records.proofs.lanes.widths.read_widths.Given as goal
+use Rattle.csv_records.proofs.lanes.widths.read_any_widths.Given as goal
 
 abbrev pub decreases-words : goal.decreases-words
 decreases-words l = l.count - length l.widths.items

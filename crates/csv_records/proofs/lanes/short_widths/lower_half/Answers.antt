@@ -1,0 +1,6 @@
+use Rattle.std.proofs.Common.{arith}
+use Rattle.csv_records.proofs.lanes.Lanes16.{eight_of}
+use Rattle.csv_records.proofs.lanes.short_widths.lower_half.Goals as goal
+
+pub returns : goal.returns
+returns c = eight_of 0 c.args.lanes (omega (arith, c.fits-lanes.0))
