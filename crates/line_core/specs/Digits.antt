@@ -50,7 +50,7 @@ pub record AreWidthsOf (widths : List ℕ) (first character : ℕ) : Type 0 wher
   pub each : (run : ℕ) → run < 4 → at widths (first + run) ≡ 48 * at (digit_pattern character) run
 
 -- the ends from one on show the digit that the widths say, the first of which is that of the quiet zone
-pub record IsDigitAt (ends widths : List ℕ) (ink first : ℕ) : Type 0 where
+pub record ShowsDigitAt (ends widths : List ℕ) (ink first : ℕ) : Type 0 where
   pub character : ℕ
   pub said : AreWidthsOf widths (first + 1) character
   pub nearest : IsNearest (inner_at ends first) ink character
@@ -59,4 +59,4 @@ pub record IsDigitAt (ends widths : List ℕ) (ink first : ℕ) : Type 0 where
 pub record ShowsDigits (ends widths : List ℕ) (first count : ℕ) : Type 0 where
   pub ink : ℕ
   pub within : first + 4 * count < length ends
-  pub each : (number : ℕ) → number < count → IsDigitAt ends widths ink (first + 4 * number)
+  pub each : (number : ℕ) → number < count → ShowsDigitAt ends widths ink (first + 4 * number)

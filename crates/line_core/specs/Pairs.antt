@@ -44,13 +44,13 @@ pub record IsNearestFive (seen : Five) (narrow wide digit : ℕ) : Type 0 where
   pub nearest : (other : ℕ) → other < 10 → other ≢ digit → pair_misfit seen narrow wide (five_widths digit) < pair_misfit seen narrow wide (five_widths other)
 
 -- five widths of one colour, from a run on, in 1/48 module, are those of a digit
-pub record AreElements (widths : List ℕ) (first digit : ℕ) : Type 0 where
+pub record AreFiveWidths (widths : List ℕ) (first digit : ℕ) : Type 0 where
   pub each : (number : ℕ) → number < 5 → at widths (first + 2 * number) ≡ 48 * at (five_widths digit) number
 
 -- the pair that begins at an end shows in one colour the digit that the widths say, the first of which is that of the quiet zone
 pub record IsFiveAt (ends widths : List ℕ) (narrow wide colour first : ℕ) : Type 0 where
   pub digit : ℕ
-  pub said : AreElements widths (first + 1 + colour) digit
+  pub said : AreFiveWidths widths (first + 1 + colour) digit
   pub nearest : IsNearestFive (five_elements_at ends first colour) narrow wide digit
 
 -- so is each of the seven digits of a colour, whose narrow elements are all so wide, and whose wide ones so

@@ -34,8 +34,8 @@ pub record ShowsItf (values : List ℕ) (step : ℕ) (turns ends widths : List �
   pub light : HasLight values step turns ends 4 64 10 34 5
 
 -- each character that the widths say is nearer to its pattern than every other of its alphabet, and beside the bars is light: 2.5 modules, and 4.5 of EAN-8
-abbrev pub ShowsSymbol : List ℕ → ℕ → List ℕ → List ℕ → List ℕ → Type 0
-ShowsSymbol values step turns ends widths =
+abbrev pub ShowsWidths : List ℕ → ℕ → List ℕ → List ℕ → List ℕ → Type 0
+ShowsWidths values step turns ends widths =
     ShowsEan values step turns ends widths 6 5
     ⊎ ShowsEan values step turns ends widths 4 9
     ⊎ ShowsUpce values step turns ends widths
@@ -46,4 +46,4 @@ ShowsSymbol values step turns ends widths =
 pub record ShowsBars (values : List ℕ) (step : ℕ) (turns ends widths : List ℕ) : Type 0 where
   pub shown : ShowsEnds values step turns ends
   pub count : length ends + 1 ≡ length widths
-  pub symbol : ShowsSymbol values step turns ends widths
+  pub symbol : ShowsWidths values step turns ends widths

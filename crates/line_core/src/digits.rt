@@ -1,6 +1,6 @@
 //! Whether each digit of EAN and UPC is nearer to its pattern than to every other.
 ghost use Rattle.std.specs.Prelude.{◌≡◌, ◌≢◌, ◌+◌, ◌*◌, ◌<◌, ◌≤◌, ◌^◌, ℕ, IfSome, IsTrue, length};
-ghost use Rattle.line_core.specs.Digits.{AreWidthsOf, IsDigitAt, IsNearest, ShowsDigits, digit_pattern, digit_place, inner_at, misfit_of, square};
+ghost use Rattle.line_core.specs.Digits.{AreWidthsOf, ShowsDigitAt, IsNearest, ShowsDigits, digit_pattern, digit_place, inner_at, misfit_of, square};
 
 /// The three inner ends of a digit, in 1/48 module from its first.
 #[derive(Clone, Copy)]
@@ -173,7 +173,7 @@ fn is_digit_at(ends: &[u32], widths: &[u16], ink: u32, first: usize) -> bool
     requires within { first + 4 < length ends.now }
     requires widths { first + 5 ≤ length widths.now }
     requires ink { ink ≤ 128 }
-    ensures { IsTrue result → IsDigitAt ends.now widths.now ink first }
+    ensures { IsTrue result → ShowsDigitAt ends.now widths.now ink first }
 {
     let Some(character) = digit_of(widths, first + 1) else {
         return false;

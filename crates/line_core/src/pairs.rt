@@ -1,7 +1,7 @@
 //! Whether each digit of ITF-14 is nearer to its elements than to those of every other.
 ghost use Rattle.std.specs.Prelude.{◌≡◌, ◌≢◌, ◌+◌, ◌*◌, ◌<◌, ◌≤◌, ◌^◌, ℕ, IfSome, IsTrue, length};
 ghost use Rattle.ean_code.specs.TwoOfFive.{five_widths};
-ghost use Rattle.line_core.specs.Pairs.{AreElements, IsFiveAt, IsNearestFive, ShowsFives, element, element_at, element_width, five_elements_at, pair_misfit};
+ghost use Rattle.line_core.specs.Pairs.{AreFiveWidths, IsFiveAt, IsNearestFive, ShowsFives, element, element_at, element_width, five_elements_at, pair_misfit};
 
 use crate::codes::Five;
 use crate::digits::square_of;
@@ -158,7 +158,7 @@ fn is_nearest(seen: Five, narrow: u32, wide: u32, digit: u8) -> bool
 fn are_widths_of(widths: &[u16], first: usize, digit: u8) -> bool
     requires within { first + 9 ≤ length widths.now }
     requires digit { digit < 10 }
-    ensures { IsTrue result → AreElements widths.now first digit }
+    ensures { IsTrue result → AreFiveWidths widths.now first digit }
 {
     let modules = modules_of(digit);
     'elements: for element in 0..5usize {
@@ -172,7 +172,7 @@ fn are_widths_of(widths: &[u16], first: usize, digit: u8) -> bool
 /// The digit that five widths of a colour are those of.
 fn digit_of(widths: &[u16], first: usize) -> Option<u8>
     requires within { first + 9 ≤ length widths.now }
-    ensures said { IfSome result (λ digit. AreElements widths.now first digit) }
+    ensures said { IfSome result (λ digit. AreFiveWidths widths.now first digit) }
     ensures within { IfSome result (λ digit. digit < 10) }
 {
     for digit in 0..10u8 {

@@ -1,6 +1,6 @@
 //! Whether a line shows a symbol.
 ghost use Rattle.std.specs.Prelude.{◌≡◌, ◌+◌, ◌-◌, ◌*◌, ◌<◌, ◌≤◌, ◌^◌, ℕ, IsTrue, length};
-ghost use Rattle.line_core.specs.Symbols.{ShowsBars, ShowsCode, ShowsEan, ShowsItf, ShowsSymbol, ShowsUpce};
+ghost use Rattle.line_core.specs.Symbols.{ShowsBars, ShowsCode, ShowsEan, ShowsItf, ShowsWidths, ShowsUpce};
 
 use crate::codes::show_codes;
 use crate::digits::show_digits;
@@ -71,7 +71,7 @@ fn shows_itf(bars: &Bars) -> bool
 
 /// Whether each character that the widths say is nearer to its pattern than every other of its alphabet, and beside the bars is light.
 fn shows_symbol(bars: &Bars) -> bool
-    ensures { IsTrue result → ShowsSymbol bars.now.values.now bars.now.step bars.now.turns.now bars.now.ends.now bars.now.widths.now }
+    ensures { IsTrue result → ShowsWidths bars.now.values.now bars.now.step bars.now.turns.now bars.now.ends.now bars.now.widths.now }
 {
     if shows_ean(bars, 6, 5) {
         return true;

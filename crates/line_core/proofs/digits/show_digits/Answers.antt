@@ -1,11 +1,11 @@
 use Rattle.std.proofs.Common.{◌+◌, ◌*◌, arith}
-use Rattle.line_core.specs.Digits.{IsDigitAt}
+use Rattle.line_core.specs.Digits.{ShowsDigitAt}
 use Rattle.line_core.proofs.BelowFacts.{below_more}
 use Rattle.line_core.proofs.digits.show_digits.Goals as goal
 
 pub digits-preserved : goal.digits-preserved
 digits-preserved c = below_more
-    (λ number. IsDigitAt c.args.ends.now c.args.widths.now c.ink_of-ink.result (c.args.first + 4 * number))
+    (λ number. ShowsDigitAt c.args.ends.now c.args.widths.now c.ink_of-ink.result (c.args.first + 4 * number))
     c.digits.number c.digits.invariant (c.is_digit_at.ensures (cc))
 
 pub returns : goal.returns
