@@ -1,0 +1,153 @@
+/* The proved calls of crates/gs1_c for any machine with a C compiler: each copies what it is given into the memory of the module that wasm2c has
+ * made C of, calls it there, and copies the answer back. embed/gs1.c, above it, is the same as everywhere. Each thread has a module of its own. */
+#include "gs1.h"
+#include "gs1_module.h"
+
+#include <string.h>
+
+#ifdef _MSC_VER
+#define EACH_THREAD __declspec(thread)
+#else
+#define EACH_THREAD _Thread_local
+#endif
+
+/* What embed/gs1.c calls, in the module's order of arguments. */
+struct gs1_c_place {
+    size_t start, equals, end;
+};
+
+#define NO_MEMORY "refused 43 NoMemory"
+
+static EACH_THREAD Z_gs1_instance_t module;
+static EACH_THREAD wasm_rt_memory_t *memory;
+/* Where the next item of this call is put, and whether one found no memory. */
+static EACH_THREAD u64 top;
+static EACH_THREAD int is_full;
+
+static void begin(void) {
+    if (!memory) {
+        if (!wasm_rt_is_initialized()) {
+            wasm_rt_init();
+        }
+        Z_gs1_init_module();
+        Z_gs1_instantiate(&module);
+        memory = Z_gs1Z_memory(&module);
+    }
+    top = *Z_gs1Z___heap_base(&module);
+    is_full = 0;
+}
+
+/* Room for so many bytes in the module's memory. */
+static u64 place(u64 bytes) {
+    const u64 at = (top + 15) / 16 * 16, most = (u64)65536 * 65535;
+    if (bytes > most || at + bytes > most) {
+        is_full = 1;
+    } else if (at + bytes > memory->size) {
+        is_full |= wasm_rt_grow_memory(memory, (u32)((at + bytes - memory->size + 65535) / 65536)) == (u32)-1;
+    }
+    top = is_full ? at : at + bytes;
+    return at;
+}
+
+static u64 given(const void *data, u64 bytes) {
+    const u64 at = place(bytes);
+    if (!is_full) {
+        memcpy(memory->data + at, data, (size_t)bytes);
+    }
+    return at;
+}
+
+/* The answer of a call. Where it wrote nothing, `out` gets back what it had. */
+static size_t told(u64 length, u64 at, uint8_t *out, size_t room) {
+    memcpy(out, memory->data + at, room);
+    return (size_t)length;
+}
+
+static size_t no_memory(uint8_t *out, size_t room) {
+    if (sizeof NO_MEMORY - 1 <= room) {
+        memcpy(out, NO_MEMORY, sizeof NO_MEMORY - 1);
+    }
+    return sizeof NO_MEMORY - 1;
+}
+
+/* A call that writes a line: what it is given, and its arguments; `at` and `to` are the places of what is given and of the answer. */
+#define LINE(name, parameters, items, size, ...)                                \
+    size_t gs1_c_##name parameters {                                            \
+        begin();                                                                \
+        const u64 at = given(items, size), to = given(out, room);               \
+        if (is_full) {                                                          \
+            return no_memory(out, room);                                        \
+        }                                                                       \
+        return told(Z_gs1Z_gs1_c_##name(&module, __VA_ARGS__, to, room), to, out, room); \
+    }
+
+#define WIDTHS(name)                                                                                                              \
+    LINE(name, (const uint16_t *widths, size_t count, uint16_t year, uint8_t *out, size_t room), widths, (u64)count * 2, at, count, year)
+#define DOTS(name)                                                                                                                \
+    LINE(name, (const uint8_t *bits, size_t bytes, uint32_t count, uint16_t year, uint8_t *out, size_t room), bits, bytes, at, bytes, count, year)
+#define TEXT(name) \
+    LINE(name, (const uint8_t *text, size_t length, uint16_t year, uint8_t *out, size_t room), text, length, at, length, year)
+#define DIGITS(name) LINE(name, (const uint8_t *text, size_t length, uint8_t *out, size_t room), text, length, at, length)
+
+WIDTHS(row) WIDTHS(row_elements) WIDTHS(find)
+DOTS(dots) DOTS(dots_elements) DOTS(find_dots)
+TEXT(date) TEXT(scan) TEXT(text) TEXT(text_elements)
+DIGITS(gtin) DIGITS(digit) DIGITS(title)
+LINE(symbol, (uint32_t kind, const uint8_t *text, size_t length, uint16_t year, uint8_t *out, size_t room), text, length, kind, at, length, year)
+LINE(label, (uint32_t kind, const uint8_t *text, size_t length, uint16_t year, uint16_t module_dots, uint16_t width, uint16_t height, uint8_t *out, size_t room),
+     text, length, kind, at, length, year, module_dots, width, height)
+
+size_t gs1_c_picture_room(uint32_t width, uint32_t height) {
+    begin();
+    return (size_t)Z_gs1Z_gs1_c_picture_room(&module, width, height);
+}
+
+size_t gs1_c_picture(const uint8_t *grey, size_t values, uint32_t width, uint32_t height, size_t stride, uint8_t level, uint16_t year,
+                     uint32_t *words, size_t word_count, uint16_t *widths, size_t width_count, uint8_t *out, size_t room) {
+    begin();
+    /* The memory that is lent is only scratch, so the module takes its own. */
+    const u64 at = given(grey, values), lent = place((u64)word_count * 4), row = place((u64)width_count * 2), to = given(out, room);
+    (void)words, (void)widths;
+    if (is_full) {
+        return no_memory(out, room);
+    }
+    return told(Z_gs1Z_gs1_c_picture(&module, at, values, width, height, stride, level, year, lent, word_count, row, width_count, to, room), to, out, room);
+}
+
+uint32_t gs1_c_status(const uint8_t *line, size_t length) {
+    begin();
+    const u64 at = given(line, length);
+    return is_full ? GS1_FAULT_NO_MEMORY : Z_gs1Z_gs1_c_status(&module, at, length);
+}
+
+_Bool gs1_c_next(const uint8_t *line, size_t length, struct gs1_c_place *found) {
+    begin();
+    /* The module's sizes have 64 bits. */
+    const u64 at = given(line, length), to = place(3 * sizeof(u64));
+    u64 said[3];
+    if (is_full || !Z_gs1Z_gs1_c_next(&module, at, length, to)) {
+        return 0;
+    }
+    memcpy(said, memory->data + to, sizeof said);
+    *found = (struct gs1_c_place){(size_t)said[0], (size_t)said[1], (size_t)said[2]};
+    return 1;
+}
+
+/* A call that fills an answer. */
+#define ANSWER(name, parameters, items, size, ...)                                  \
+    uint32_t gs1_c_##name parameters {                                              \
+        begin();                                                                    \
+        const u64 at = given(items, size), to = given(answer, sizeof *answer);      \
+        if (is_full) {                                                              \
+            return GS1_FAULT_NO_MEMORY;                                             \
+        }                                                                           \
+        const uint32_t fault = Z_gs1Z_gs1_c_##name(&module, __VA_ARGS__, to);       \
+        memcpy(answer, memory->data + to, sizeof *answer);                          \
+        return fault;                                                               \
+    }
+
+#define READ_TEXT(name) ANSWER(name, (const uint8_t *text, size_t length, uint16_t year, struct gs1_answer *answer), text, length, at, length, year)
+
+READ_TEXT(read_message) READ_TEXT(read_elements) READ_TEXT(read_gtin)
+ANSWER(read_row, (const uint16_t *widths, size_t count, uint16_t year, struct gs1_answer *answer), widths, (u64)count * 2, at, count, year)
+ANSWER(read_dots, (const uint8_t *bits, size_t bytes, uint32_t count, uint16_t year, struct gs1_answer *answer), bits, bytes, at, bytes, count, year)

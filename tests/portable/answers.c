@@ -1,0 +1,108 @@
+/* Asks the library so many questions, of numbers that are the same on each machine, and prints how many it accepts and a sum of all answers. */
+#include "gs1.h"
+
+#include <stdio.h>
+#include <stdlib.h>
+#include <string.h>
+
+static uint64_t state = 7, sum = 14695981039346656037u;
+static long accepted;
+
+static uint32_t chance(uint32_t below) {
+    state = state * 6364136223846793005u + 1442695040888963407u;
+    return (uint32_t)(state >> 33) % below;
+}
+
+static void add(const void *data, size_t bytes) {
+    for (size_t i = 0; i < bytes; i++) {
+        sum = (sum ^ ((const uint8_t *)data)[i]) * 1099511628211u;
+    }
+}
+
+static void answered(const uint8_t *line, size_t length, size_t room) {
+    add(&(uint32_t){(uint32_t)length}, 4);
+    add(line, room);
+    accepted += length <= room && gs1_status(line, length) == 0;
+}
+
+/* A number with its right check digit, mostly. */
+static size_t number(char *text) {
+    static const int lengths[] = {8, 12, 13, 14};
+    const int length = lengths[chance(4)];
+    uint32_t total = 0;
+    for (int i = 0; i < length - 1; i++) {
+        text[i] = (char)('0' + chance(10));
+        total += (uint32_t)(text[i] - '0') * ((length - i) % 2 ? 1 : 3);
+    }
+    text[length - 1] = (char)('0' + (chance(9) ? (10 - total % 10) % 10 : chance(10)));
+    return (size_t)length;
+}
+
+static size_t text(char *made) {
+    static const char *begin[] = {"]C1", "]E0", "]E4", "]I1", "]d2", "", "^", "https://id.gs1.org/01/09501101530003/10/", "]Q1https://a.b/00/", "01095011015300031726123110"};
+    size_t length = (size_t)sprintf(made, "%s", begin[chance(10)]);
+    if (chance(3) == 0) {
+        return length + number(made + length);
+    }
+    for (uint32_t more = chance(30); more > 0; more--) {
+        made[length++] = "0123456789012345678901234567890123456789ABc^\x1d/=?&%-+"[chance(53)];
+    }
+    return length;
+}
+
+/* The widths of a symbol that the library draws, in pixels, perhaps with a fault. */
+static size_t row(uint16_t *widths) {
+    char made[16];
+    uint8_t out[GS1_SYMBOL] = {0};
+    size_t length = number(made), count = 0;
+    const enum gs1_kind kind = length == 8 ? GS1_EAN8 : length == 12 ? GS1_UPCA : length == 13 ? GS1_EAN13 : GS1_ITF14;
+    const size_t wrote = gs1_symbol(kind, (const uint8_t *)made, length, 2026, out, sizeof out);
+    const uint16_t pixels = (uint16_t)(1 + chance(4));
+    char *at = (char *)out;
+    answered(out, wrote, sizeof out);
+    if (wrote >= sizeof out || gs1_status(out, wrote)) {
+        return 0;
+    }
+    out[wrote] = 0;
+    at = strchr(at + 7, ' ');
+    at = at ? strchr(at + 1, ' ') : NULL;
+    at = at ? strchr(at + 1, ' ') : NULL;
+    widths[count++] = (uint16_t)(20 * pixels);
+    while (at && *at) {
+        widths[count++] = (uint16_t)(strtoul(at, &at, 10) * pixels);
+    }
+    widths[count++] = (uint16_t)(20 * pixels);
+    if (chance(3) == 0) {
+        widths[chance((uint32_t)count)] = (uint16_t)chance(40);
+    }
+    return count;
+}
+
+int main(int argc, char **argv) {
+    static uint8_t out[GS1_FOUND];
+    const long questions = argc > 1 ? atol(argv[1]) : 1000;
+    for (long i = 0; i < questions; i++) {
+        char made[256];
+        uint16_t widths[256];
+        struct gs1_answer answer;
+        const uint16_t year = (uint16_t)(chance(2) ? 2026 : GS1_EVERY_AI | 2026);
+        const size_t room = chance(20) ? GS1_LINE : chance(40);
+        memset(out, 0, GS1_LINE);
+        memset(&answer, 0, sizeof answer);
+        if (i % 4 == 0) {
+            const size_t count = row(widths);
+            memset(out, 0, GS1_LINE);
+            answered(out, (i % 8 ? gs1_row_elements : gs1_find)(widths, count, year, out, room), room);
+            gs1_read_row(widths, count, year, &answer);
+        } else {
+            const size_t length = text(made);
+            const uint8_t *bytes = (const uint8_t *)made;
+            answered(out, i % 4 == 1 ? gs1_scan(bytes, length, year, out, room) : i % 4 == 2 ? gs1_text_elements(bytes, length, year, out, room)
+                     : gs1_gtin(bytes, length, out, room), room);
+            gs1_read_message(bytes, length, year, &answer);
+        }
+        add(&answer, sizeof answer);
+    }
+    printf("%ld questions, %ld accepted, sum %08lx%08lx\n", questions, accepted, (unsigned long)(sum >> 32), (unsigned long)(sum & 0xffffffff));
+    return 0;
+}
