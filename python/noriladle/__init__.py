@@ -77,14 +77,14 @@ for _name in ("row_elements", "find", "dots_elements", "find_dots", "picture", "
     getattr(_library, f"gs1_c_{_name}").restype = _SIZE
 
 
-def _version_and_sources() -> str:
-    """The version of the library and the beginning of its sources' checksum."""
+def _sources() -> str:
+    """The beginning of the checksum of the library's sources."""
     call = getattr(_library, "gs1_version", None)
     if not call:  # The library is older than the module.
-        return f"{__version__} (sources unknown)"
+        return "unknown"
     call.restype = _BYTES
     told: bytes = call()
-    return told.decode()
+    return told.decode().partition("sources ")[2].rstrip(")")
 
 
 class Refusal(ValueError):

@@ -8,7 +8,7 @@ import re
 import sys
 from typing import Any, List, NamedTuple, NoReturn, Optional, Sequence, Tuple
 
-from . import _version_and_sources
+from . import __version__
 from ._shop import machine_language, speak, translated
 from .commands import REFUSED, RIGHT, WRONG_WORDS, WrongWords, tell
 
@@ -102,8 +102,10 @@ def _names(action: argparse.Action) -> str:
 def parser_of(name: Optional[str] = None) -> Parser:
     """The parser of the program, or of a subcommand, whose module is imported."""
     if name is None:
+        from . import _sources  # Only used here.
+
         parser = Parser("noriladle", _ABOUT, _AFTER, COMMANDS)
-        parser.add_argument("--version", action="version", version=f"noriladle {_version_and_sources()}", help="Print version")
+        parser.add_argument("--version", action="version", version=f"noriladle {__version__} (sources {_sources()})", help="Print version")
         return parser
     module = _module_of(name)
     about, _, after = (module.__doc__ or "").partition("\n")

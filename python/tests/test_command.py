@@ -33,7 +33,7 @@ def test_without_a_word_it_prints_its_help(capsys):
 
 
 def test_version(capsys):
-    assert told(["--version"], capsys) == (0, f"noriladle {__version__}\n", "")
+    assert told(["--version"], capsys) == (0, f"noriladle {__version__} (sources {_sources()})\n", "")
 
 
 @pytest.mark.parametrize("words, said", [
