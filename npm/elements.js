@@ -1,8 +1,8 @@
 // Elements as data, and what the standard says of lists of them.
 import { AIS, COUNTRY_LETTERS, KNOWN_COUNTRIES, countriesOf, countryCodes, currencyOf, isOf, numberOf, placeOf, unitOf } from "./page.js";
 
-// What there is of an element, in this order; `dated` has the days and the time that it names.
-export function elementOf({ ai, value }, { date, until, time } = {}) {
+// What there is of an element, in this order.
+export function elementOf({ ai, value, date, until, time }) {
   const countries = countriesOf(ai, value), told = { ai, title: AIS.get(ai)?.title || undefined, value, date, until, time, number: numberOf(ai, value), unit: unitOf(ai),
     currency: currencyOf(ai, value), countries: countries.length ? countries : undefined, place: placeOf(ai, value) };
   return Object.fromEntries(Object.entries(told).filter(([, it]) => it !== undefined));

@@ -1,13 +1,16 @@
 // GS1 barcodes for Node and browsers: turns the answers of the proved library into values of JavaScript.
 import { aiAt, associations, doubts, elementOf, needsSeparator } from "./elements.js";
 import { MODULE, VERSION } from "./module.js";
-import { Gs1 as Calls, greyOf, pairsOf, symbolsShown } from "./page.js";
+import { Gs1 as Calls, greyOf, gtinOf, symbolsShown } from "./page.js";
 import { REMEDIES } from "./remedies.js";
 
 export { VERSION, associations, doubts };
 
 // The largest input.
 const MOST_WIDTHS = 131_072, MOST_BYTES = 262_144, MOST_U16 = 65_535;
+
+// For calls whose answer has no day.
+const ANY_YEAR = 2000;
 
 // The identifiers of scanners that an element string may follow.
 const ELEMENT_STRINGS = ["]C1", "]e0", "]d2", "]Q3", "]J1"];
@@ -53,23 +56,34 @@ function termsOf(year, { ais = "all" } = {}) {
 }
 
 class Answer {
-  constructor(identifier, elements) {
+  #found;
+
+  // What is found of the elements; what their values mean is added when somebody asks for it.
+  constructor(identifier, symbol, found) {
+    this.#found = found;
     this.identifier = identifier;
-    this.elements = elements;
+    this.symbol = symbol;
+    let elements;
+    Object.defineProperty(this, "elements", { enumerable: true, get: () => elements ??= madeOf(found) });
     // Under each AI the first element with it.
-    for (const element of elements) if (!Object.hasOwn(this, element.ai)) Object.defineProperty(this, element.ai, { value: element });
+    for (const ai of new Set(found.map((it) => it.ai))) Object.defineProperty(this, ai, { get: () => this.elements.find((it) => it.ai === ai) });
   }
 
-  get text() { return this.elements.map(({ ai, value }) => `(${ai})${value}`).join(""); }
+  get text() { return this.#found.map(({ ai, value }) => `(${ai})${value}`).join(""); }
 
-  get gtin() { return this.elements[0].ai === "01" ? this.elements[0].value : undefined; }
+  get gtin() { return gtinOf(this.#found); }
 
   [Symbol.iterator]() { return this.elements[Symbol.iterator](); }
 
   toJSON() { return { identifier: this.identifier ?? null, elements: this.elements }; }
 
   toString() { return `${this.identifier ?? "-"} ${this.text}`; }
+
+  // What Node prints, with the elements.
+  [Symbol.for("nodejs.util.inspect.custom")](_, options, inspect) { return `Answer ${inspect({ ...this }, options)}`; }
 }
+
+const madeOf = (found) => found.map((it) => Object.freeze(elementOf(it)));
 
 class Gs1 {
   #calls;
@@ -77,13 +91,12 @@ class Gs1 {
   constructor(calls) { this.#calls = calls; }
 
   readRow(widths, year, options) {
-    const terms = termsOf(year, options);
-    return this.#answer(this.#askRow("gs1_c_row_elements", widths, terms), terms);
+    return answerOf(this.#askRow((...words) => this.#read("gs1_c_read_row", ...words), widths, termsOf(year, options)));
   }
 
   find(widths, year, options) {
     const row = Array.from(widths);
-    return this.#askRow("gs1_c_find", row, termsOf(year, options)).split("\n").slice(0, -1).map((line) => {
+    return this.#askRow((...words) => this.#ask("gs1_c_find", ...words), row, termsOf(year, options)).split("\n").slice(0, -1).map((line) => {
       const [first, count] = line.split(" ", 2).map(Number);
       return { first, count, answer: this.readRow(row.slice(first, first + count), year, options) };
     });
@@ -92,7 +105,7 @@ class Gs1 {
   readScan(text, year, options) {
     const terms = termsOf(year, options), bytes = bytesOf(text);
     try {
-      return this.#answer(this.#ask("gs1_c_scan", ...this.#put(bytes), terms), terms);
+      return answerOf(this.#read("gs1_c_read_message", ...this.#put(bytes), terms));
     } catch (error) {
       if (!ELEMENT_STRINGS.includes(latin1(bytes.subarray(0, 3)))) throw error;
       // Places do not count a separator at the beginning.
@@ -112,7 +125,7 @@ class Gs1 {
     return text;
   }
 
-  readGtin(text) { return this.#ask("gs1_c_gtin", ...this.#put(bytesOf(text))).slice("gtin ".length); }
+  readGtin(text) { return this.#read("gs1_c_read_gtin", ...this.#put(bytesOf(text)), ANY_YEAR).text.slice("01".length); }
 
   checkDigit(text) { return Number(this.#ask("gs1_c_digit", ...this.#put(bytesOf(text))).slice("digit ".length)); }
 
@@ -134,10 +147,18 @@ class Gs1 {
     if (!Number.isInteger(level) || level < 0 || level > 255) throw new RangeError("the level is not 1 to 255");
     const terms = termsOf(year, { ais }), { symbols, reason } = symbolsShown(this.#calls.picture(greyOf(pixels), level, terms)), refusal = refusalOf(reason);
     if (refusal && OF_THE_CALL.includes(refusal.number)) throw refusal;
-    return symbols.map(({ said, corners, rows }) => ({ answer: this.#answer(said, terms), corners, rows }));
+    // Such a line begins with an identifier and a blank.
+    return symbols.map(({ said, corners, rows }) => ({ answer: new Answer(said.slice(0, 3), undefined, this.#calls.elements(said.slice(4), terms)), corners, rows }));
   }
 
   #ask(call, ...words) { return accepted(this.#calls.told(call, ...words)); }
+
+  // What a call says that fills a struct, unless it is an error.
+  #read(call, ...words) {
+    const said = this.#calls.read(call, ...words);
+    if (said.fault) throw new Refusal(said.fault, Calls.faults[said.fault], said.place);
+    return said;
+  }
 
   // Puts a text for a call: its place and its length.
   #put(bytes) {
@@ -148,25 +169,24 @@ class Gs1 {
 
   // Asks about the widths of a row. A width above 65,535 is no u16, so it is refused here, but after the errors that come first: the year and
   // the number of runs.
-  #askRow(call, widths, terms) {
+  #askRow(ask, widths, terms) {
     const row = Array.from(widths);
     if (row.length > MOST_WIDTHS) throw new RangeError(`a row has at most ${MOST_WIDTHS} runs`);
     if (row.some((width) => !Number.isInteger(width) || width < 0)) throw new RangeError("a width is a whole number from 0");
     this.#calls.words.set(row.map((width) => Math.min(width, MOST_U16)));
-    const line = this.#calls.told(call, BigInt(this.#calls.input), BigInt(row.length), terms);
-    if (row.some((width) => width > MOST_U16) && !/^refused (42|18) /.test(line)) throw new Refusal(17, "TooWide");
-    return accepted(line);
-  }
-
-  // An identifier and elements, as a call writes them; `-` stands for an identifier that was not sent.
-  #answer(line, terms) {
-    const at = line.indexOf(" "), identifier = line.slice(0, at);
-    return new Answer(identifier === "-" ? undefined : identifier, this.#elements(line.slice(at + 1), terms));
+    const isNarrow = row.every((width) => width <= MOST_U16);
+    try {
+      const said = ask(BigInt(this.#calls.input), BigInt(row.length), terms);
+      if (isNarrow) return said;
+    } catch (error) {
+      if (isNarrow || [18, 42].includes(error.number)) throw error;
+    }
+    throw new Refusal(17, "TooWide");
   }
 
   #parse(bytes, terms) {
     try {
-      return this.#elements(this.#ask("gs1_c_text_elements", ...this.#put(bytes), terms).slice("data ".length), terms);
+      return madeOf(this.#read("gs1_c_read_elements", ...this.#put(bytes), terms).elements);
     } catch (error) {
       throw this.#withBefore(error, bytes, terms);
     }
@@ -178,17 +198,6 @@ class Gs1 {
     error.ai = aiAt(latin1(bytes.subarray(error.place, error.place + 4)));
     if (error.place > 0) error.before = this.#parse(bytes.subarray(0, error.place), terms);
     return error;
-  }
-
-  #elements(pairs, terms) { return pairsOf(pairs).map((pair) => Object.freeze(elementOf(pair, this.#dated(pair, terms)))); }
-
-  // The days and the time that an element names. Then its value has only digits.
-  #dated({ ai, value }, terms) {
-    if (!/^\d{6,12}$/.test(value)) return {};
-    const [told, date, time] = this.#calls.told("gs1_c_date", ...this.#put(bytesOf(`${ai}=${value}`)), terms).split(" ");
-    if (told !== "date") return {};
-    // Read the second day of 7007 like any other day of six digits.
-    return { date, time, until: ai === "7007" && value.length === 12 ? this.#dated({ ai: "17", value: value.slice(6) }, terms).date : undefined };
   }
 
   // Throws the error of a pair that is no element, with its index as the place.
@@ -208,6 +217,7 @@ class Gs1 {
   }
 }
 
+const answerOf = ({ identifier, symbol, elements }) => new Answer(identifier || undefined, symbol, elements);
 const bytesOf = (text) => (typeof text === "string" ? new TextEncoder().encode(text) : text);
 const latin1 = (bytes) => String.fromCharCode(...bytes);
 

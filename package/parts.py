@@ -117,7 +117,7 @@ def npm_files() -> Files:
 
 _NPM_EXPORT = """\
 export {
-  AIS, COUNTRY_LETTERS, Gs1, KNOWN_COUNTRIES, countriesOf, countryCodes, currencyOf, greyOf, isOf, numberOf, pairsOf, placeOf, symbolsShown, unitOf,
+  AIS, COUNTRY_LETTERS, Gs1, KNOWN_COUNTRIES, countriesOf, countryCodes, currencyOf, greyOf, gtinOf, isOf, numberOf, placeOf, symbolsShown, unitOf,
 };
 """
 

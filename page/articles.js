@@ -46,8 +46,8 @@ function noteNumber(numbers, number, noted) {
 // Notes all numbers of a record that cannot be read, since it may be of the same article.
 function noteDoubt(numbers, { line, cells }) {
   for (const cell of cells.filter(looksRight)) {
-    const [first] = readText(cell).elements ?? [];
-    if (first?.ai === "01") noteNumber(numbers, first.value, { line, said: `\0${line}` });
+    const gtin = gtinOf(readText(cell).elements ?? []);
+    if (gtin) noteNumber(numbers, gtin, { line, said: `\0${line}` });
   }
 }
 
@@ -140,9 +140,9 @@ function symbolTold(text, named) {
   if (answer.refused) return faultOfText(text, remedyOf(text, answer.refused), answer.refused);
   if (answer.fault) return faultOfText(text, answer.fault);
   const says = answer.elements.map(({ ai, value }) => `(${ai})${value}`).join("");
-  const isLink = ["]Q1", "]d1"].includes(answer.identifier) || /^http/i.test(text), [first] = answer.elements;
+  const isLink = ["]Q1", "]d1"].includes(answer.identifier) || /^http/i.test(text);
   if (isLink) return faultOfText(text, { key: "link", values: [says] });
-  const usual = usualKind(asked, answer), kind = short || usual, gtin = first.ai === "01" ? first.value : "";
+  const usual = usualKind(asked, answer), kind = short || usual, gtin = gtinOf(answer.elements);
   if (kind === "gs1128") return { kind, text: usual === kind ? elementsTyped(asked, answer) : `01${gtin}`, answer };
   if (!gtin || answer.elements.length > 1) return faultOfText(text, { key: "notAlone" });
   return { kind, text: gtin, answer };

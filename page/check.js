@@ -25,7 +25,7 @@ function answerOf(text, line) {
   if (/^\+[A-Za-z]\d/.test(text)) return { ...answer, kind: "scanner", fault: { key: "layout" } };
   if (said.fault) return { ...answer, fault: said.fault };
   if (said.refused) return { ...answer, fault: { ...remedyOf(text, said.refused), refused: said.refused } };
-  return { ...answer, elements: told(said.elements), isPlain: said.elements.length === 1 && said.elements[0].ai === "01" };
+  return { ...answer, elements: told(said.elements), gtin: gtinOf(said.elements), isPlain: said.elements.length === 1 && said.elements[0].ai === "01" };
 }
 
 function kindOf(text) {
@@ -120,11 +120,11 @@ const checkedRows = () => [[t("csvLine"), t("csvTyped"), t("csvKind"), t("thAi")
   ...answers.flatMap(({ line, typed, kind, fault, elements }) => fault ? [[line, typed, kindName(kind), "", "", "", "", remedyText(fault)]]
     : elements.map(({ ai, title, value, meaning }) => [line, typed, kindName(kind), ai, title, value, meaning, ""]))];
 
-const checkedJson = () => JSON.stringify(answers.map(({ line, typed, kind, fault, elements }) => ({ line, text: typed, kind,
-  ...(fault ? { fault: { ...(fault.refused ? refusalOf(fault.refused) : {}), remedy: remedyText(fault), fixes: fault.fixes } } : { elements: asData(elements) }) })), null, 2);
+const checkedJson = () => JSON.stringify(answers.map(({ line, typed, kind, fault, gtin, elements }) => ({ line, text: typed, kind,
+  ...(fault ? { fault: { ...(fault.refused ? refusalOf(fault.refused) : {}), remedy: remedyText(fault), fixes: fault.fixes } } : { gtin, elements: asData(elements) }) })), null, 2);
 
 // Elements as data, with days in the international form.
-const asData = (elements) => elements.map(({ ai, title, value, meaning }) => ({ ai, title, value, date: core.date(ai, value), meaning: meaning || undefined }));
+const asData = (elements) => elements.map(({ ai, title, value, date, time, meaning }) => ({ ai, title, value, date: time ? `${date} ${time}` : date, meaning: meaning || undefined }));
 
 async function takeTexts(file) {
   const read = await openFile(file, "check-fault");

@@ -9,7 +9,7 @@ const core = {
   // The year, and every Application Identifier.
   get terms() { return Gs1.everyAi | core.year; },
 
-  gtin: (text) => gs1.told("gs1_c_gtin", ...gs1.put(text)),
+  gtin: (text) => gs1.read("gs1_c_read_gtin", ...gs1.put(text), core.terms),
   digit: (digits) => gs1.told("gs1_c_digit", ...gs1.put(digits)).split(" ")[1],
   symbol: (kind, text) => gs1.told("gs1_c_symbol", Gs1.kinds.indexOf(kind), ...gs1.put(text), core.terms),
 
@@ -20,10 +20,10 @@ const core = {
   picture: (picture, level) => symbolsShown(gs1.picture(picture, level, core.terms)),
 
   // A text without room in the module's memory is too long for any code.
-  scan: (text) => text.length > 65536 ? "refused 11 TooLong" : gs1.told("gs1_c_scan", ...gs1.put(text), core.terms),
+  scan: (text) => text.length > 65536 ? { refused: "refused 11 TooLong" } : gs1.read("gs1_c_read_message", ...gs1.put(text), core.terms),
 
-  // The day of an element, as 2026-12-31, perhaps with a time after it; or nothing.
-  date: (ai, value) => gs1.told("gs1_c_date", ...gs1.put(`${ai}=${value}`), core.terms).match(/^date (.*)$/)?.[1],
+  // The elements of pairs.
+  elements: (pairs) => gs1.elements(pairs, core.terms),
 };
 
 // The number, the name and the place of an error.
@@ -33,9 +33,9 @@ function refusalOf(line) {
 }
 
 // What a value means for a person, beyond its digits: a day, a weight, an amount of money, countries, a place; or nothing.
-function meaningOfElement({ ai, value }) {
-  const day = core.date(ai, value), number = numberOf(ai, value), place = placeOf(ai, value);
-  if (day) return ai === "7007" && value.length === 12 ? `${inWords(day)} – ${inWords(core.date("17", value.slice(6)))}` : inWords(day);
+function meaningOfElement({ ai, value, date, time, until }) {
+  const number = numberOf(ai, value), place = placeOf(ai, value);
+  if (date) return until ? `${inWords(date)} – ${inWords(until)}` : inWords(date, time);
   if (number !== undefined) return [amountOf(number), unitOf(ai) ?? currencyOf(ai, value) ?? (/^39[13]/.test(ai) ? value.slice(0, 3) : "")].filter(Boolean).join(" ");
   if (place) return `${place.latitude}, ${place.longitude}`;
   if (ai === "01" || ai === "02") return /^0{6}/.test(value) ? `EAN-8 ${value.slice(6)}` : /^00/.test(value) ? `UPC-A ${value.slice(2)}` : value[0] === "0" ? `EAN-13 ${value.slice(1)}` : "";
@@ -47,8 +47,8 @@ function meaningOfElement({ ai, value }) {
 // A number with its decimals, as the language of the page writes it.
 const amountOf = (number) => Number(number).toLocaleString(language, { minimumFractionDigits: number.split(".")[1]?.length ?? 0, maximumFractionDigits: 20 });
 
-// A day in the language of the page.
-function inWords(day) {
-  const [date, time] = day.split(" "), words = new Date(`${date}T00:00Z`).toLocaleDateString(language, { dateStyle: "medium", timeZone: "UTC" });
+// A day in the language of the page, perhaps with a time.
+function inWords(date, time) {
+  const words = new Date(`${date}T00:00Z`).toLocaleDateString(language, { dateStyle: "medium", timeZone: "UTC" });
   return time ? `${words}, ${time}` : words;
 }

@@ -5,6 +5,16 @@
 class Gs1 {
   static kinds = ["ean13", "upca", "ean8", "upce", "gs1128", "itf14"];
 
+  // The kinds of symbols that scanners read, and the names of errors, by their numbers in gs1.h. tables/remedies writes the names.
+  static symbols = [undefined, "ean13", "upca", "upce", "ean8", "itf14", "gs1128", "databar", "datamatrix", "qr_code", "dotcode"];
+  static faults = [
+    "", "Length", "NotDigit", "CheckDigit", "Empty", "UnknownAi", "ValueLength", "ValueCharacter", "ValueCheckDigit", "ValueDate",
+    "MissingSeparator", "TooLong", "TooManyCharacters", "CheckCharacter", "NotGs1", "FunctionCharacter", "CodeSet", "TooWide", "BadRuns",
+    "Blank", "RunCount", "QuietZone", "Modules", "Pattern", "SymbolCheckDigit", "BadGrid", "LabelKind", "LabelWidth", "NotP4", "PbmHeader",
+    "Truncated", "PbmSize", "Stranger", "BadCount", "Full", "Spent", "NoThread", "ReadFault", "WriteFault", "Csv", "Kind", "BadLane", "Words",
+    "NoMemory", "InputSize"
+  ];
+
   // Beside a year: accept every Application Identifier.
   static everyAi = 0x8000;
 
@@ -60,6 +70,24 @@ class Gs1 {
   // The line that a call answers.
   told(name, ...words) { return this.line(this.ask(this.calls[name], ...words)); }
 
+  // What a call says that fills a struct.
+  read(name, ...words) {
+    this.calls[name](...words, BigInt(this.output));
+    return new RawAnswer(this.calls.memory.buffer, this.output);
+  }
+
+  // The elements of pairs, with the days and the time that they name.
+  elements(pairs, terms) { return pairsOf(pairs).map(({ ai, value }) => ({ ai, value, ...this.dated(ai, value, terms) })); }
+
+  // Only digits name a day.
+  dated(ai, value, terms) {
+    if (!/^\d{6,12}$/.test(value)) return {};
+    const [told, date, time] = this.told("gs1_c_date", ...this.put(`${ai}=${value}`), terms).split(" ");
+    if (told !== "date") return {};
+    // Read the second day of 7007 like any other day of six digits.
+    return { date, time, until: ai === "7007" && value.length === 12 ? this.dated("17", value.slice(6), terms).date : undefined };
+  }
+
   // A text's place and length.
   put(text) { return [BigInt(this.input), BigInt(new TextEncoder().encodeInto(text, this.bytes).written)]; }
 
@@ -90,6 +118,51 @@ class Gs1 {
     return this.told("gs1_c_picture", BigInt(greyAt), BigInt(grey.length), width, height, BigInt(width), level, terms,
       BigInt(wordsAt), BigInt(words), BigInt(widthsAt), BigInt(width + 2));
   }
+}
+
+// What a barcode says, or why it says nothing: `struct gs1_answer` of gs1.h at this place of a memory. Its elements are made when they are
+// first asked for.
+class RawAnswer {
+  static decoder = new TextDecoder();
+
+  #places;
+  #elements;
+
+  constructor(memory, at) {
+    const view = new DataView(memory, at), place = view.getUint16(2, true), count = view.getUint8(5);
+    this.fault = view.getUint16(0, true);
+    this.place = place === 65535 ? undefined : place;
+    this.symbol = Gs1.symbols[view.getUint8(4)];
+    this.identifier = view.getUint8(8) ? String.fromCharCode(...[8, 9, 10].map((i) => view.getUint8(i))) : "";
+    this.text = RawAnswer.decoder.decode(new Uint8Array(memory, at + 12, view.getUint8(6)));
+    this.#places = new DataView(memory.slice(at + 204, at + 204 + 18 * count));
+  }
+
+  // The line of an error; empty if it is none.
+  get refused() {
+    return this.fault ? `refused ${this.fault} ${Gs1.faults[this.fault]}${this.place === undefined ? "" : ` ${this.place}`}` : "";
+  }
+
+  get elements() { return this.#elements ??= Array.from({ length: this.#places.byteLength / 18 }, (_, i) => this.#element(18 * i)); }
+
+  // The element at a place.
+  #element(at) {
+    const byte = (i) => this.#places.getUint8(at + i), digits = (i) => String(byte(i)).padStart(2, "0"), named = byte(3);
+    const day = (i) => `${String(this.#places.getUint16(at + i, true)).padStart(4, "0")}-${digits(i + 2)}-${digits(i + 3)}`;
+    return {
+      ai: this.text.slice(byte(0), byte(1)),
+      value: this.text.slice(byte(1), byte(2)),
+      date: named & 1 ? day(4) : undefined,
+      time: named & 2 ? `${digits(12)}:${digits(13)}:${digits(14)}` : undefined,
+      until: named & 4 ? day(8) : undefined,
+    };
+  }
+}
+
+// The GTIN of elements, wherever 01 stands; or nothing if there is none, or two that differ.
+function gtinOf(elements) {
+  const values = new Set(elements.filter(({ ai }) => ai === "01").map(({ value }) => value));
+  return values.size === 1 ? [...values][0] : undefined;
 }
 
 // The symbols in the lines of a picture, in reading order, each with its corners, how many rows show it and what it says; for a picture

@@ -42,16 +42,12 @@ function readText(typed) {
   if (/^0+$/.test(digits)) return { fault: { key: "zerosAlone" } };
   // Eight digits that begin with 0 are a GTIN-8 or a UPC-E: the module refuses to guess.
   if (/^0[0-9]{7}$/.test(digits)) return scanned(digits);
-  const said = core.gtin(digits);
-  return said.startsWith("refused") ? { refused: said } : scanned(`^01${said.slice(5)}`);
+  return saidBy(core.gtin(digits));
 }
 
-function scanned(text) {
-  const said = core.scan(text);
-  if (said.startsWith("refused")) return { refused: said };
-  const identifier = said.slice(0, said.indexOf(" "));
-  return { identifier: identifier === "-" ? "" : identifier, elements: pairsOf(said.slice(said.indexOf(" ") + 1)) };
-}
+const scanned = (text) => saidBy(core.scan(text));
+
+const saidBy = ({ refused, identifier, elements }) => refused ? { refused } : { identifier, elements };
 
 // The AIs of a text with parentheses or brackets around each, with their values; or nothing if there are parentheses
 // elsewhere too.
@@ -105,8 +101,8 @@ function remedyOfElements(text, refusal) {
 
 // What to do about a GTIN without the zeros that AI 01 and 02 need.
 function padded(ai, value) {
-  const said = ai === "01" || ai === "02" ? core.gtin(value) : "", gtin = said.slice(5);
-  return said.startsWith("gtin") && gtin !== value ? { key: "padded", values: [ai, gtin] } : null;
+  const gtin = ai === "01" || ai === "02" ? gtinOf(core.gtin(value).elements) : value;
+  return gtin && gtin !== value ? { key: "padded", values: [ai, gtin] } : null;
 }
 
 function remedyOfDigits(text, refusal) {

@@ -24,11 +24,12 @@ import datetime
 import enum
 import operator
 import re
+import struct
 from dataclasses import dataclass, field
 from decimal import Decimal
 from functools import lru_cache
 from pathlib import Path
-from typing import TYPE_CHECKING, Any, Dict, Iterable, Iterator, List, Literal, NamedTuple, Optional, Sequence, Tuple, Union
+from typing import TYPE_CHECKING, Any, Callable, Dict, Iterable, Iterator, List, Literal, NamedTuple, Optional, Sequence, Tuple, TypeVar, Union, get_args
 
 from . import _values
 from ._values import Association, Doubt, Place
@@ -37,9 +38,9 @@ if TYPE_CHECKING:
     from .picture import Picture
 
 __all__ = [
-    "Ais", "Answer", "Association", "Box", "Doubt", "Element", "Found", "Kind", "LabelSymbol", "Place", "Refusal", "Symbol", "associations",
-    "check_digit", "compose", "doubts", "draw_label", "find", "find_dots", "label_symbol", "parse_elements", "read_dots", "read_elements",
-    "read_gtin", "read_picture", "read_row", "read_scan",
+    "Ais", "Answer", "Association", "Box", "Doubt", "Element", "Found", "Kind", "LabelSymbol", "Place", "Refusal", "Symbol", "SymbolKind",
+    "associations", "check_digit", "compose", "doubts", "draw_label", "find", "find_dots", "label_symbol", "parse_elements", "read_dots",
+    "read_elements", "read_gtin", "read_picture", "read_row", "read_scan",
 ]
 
 __version__ = "2.0.0"
@@ -48,6 +49,8 @@ _MOST = 65_535
 _LINE = 292
 _SYMBOL = 900
 _EVERY_AI = 0x8000
+_ANY_YEAR = 2000
+"""For calls whose answer has no day."""
 # The symbology identifiers that an element string may follow.
 _ELEMENT_STRINGS = (b"]C1", b"]e0", b"]d2", b"]Q3", b"]J1")
 _LINE_OF_REFUSAL = re.compile(r"refused (\d+) (\w+)(?: (\d+))?")
@@ -55,26 +58,37 @@ _LINE_OF_REFUSAL = re.compile(r"refused (\d+) (\w+)(?: (\d+))?")
 Ais = Literal["all", "profile"]
 """Which Application Identifiers are accepted: every one of the GS1 General Specifications, or those of the profile."""
 
+SymbolKind = Literal["ean13", "upca", "upce", "ean8", "itf14", "gs1128", "databar", "datamatrix", "qr_code", "dotcode"]
+"""The kinds of symbols that scanners read."""
+
+_SYMBOLS: Tuple[Optional[SymbolKind], ...] = (None, *get_args(SymbolKind))
+"""Those of ``enum gs1_symbol_kind``, by their numbers."""
+_HEAD = struct.Struct("<2H4B4s192s")
+"""``struct gs1_answer`` up to its elements: fault, place, symbol, count, length, gtin, identifier, text."""
+_PLACE = struct.Struct("<4BH2BH2B5Bx")
+"""``struct gs1_place``: ai, value, end, named; year, month and day, twice; hour, minute, second, number, decimals."""
+_NAMES_DAY, _NAMES_TIME, _NAMES_LAST_DAY = 1, 2, 4
+_NO_PLACE = 65_535
+
+_RawAnswer = ctypes.c_char * (_HEAD.size + 48 * _PLACE.size)
+assert ctypes.sizeof(_RawAnswer) == 1068, "the size that gs1.h promises"
+
 _library = ctypes.CDLL(str(Path(__file__).with_name("libgs1.so")))
-_SIZE, _U16, _U32, _BYTES = ctypes.c_size_t, ctypes.c_uint16, ctypes.c_uint32, ctypes.c_char_p
-_library.gs1_c_row_elements.argtypes = [ctypes.POINTER(_U16), _SIZE, _U16, _BYTES, _SIZE]
-_library.gs1_c_find.argtypes = [ctypes.POINTER(_U16), _SIZE, _U16, _BYTES, _SIZE]
-_library.gs1_c_dots_elements.argtypes = [_BYTES, _SIZE, _U32, _U16, _BYTES, _SIZE]
-_library.gs1_c_find_dots.argtypes = [_BYTES, _SIZE, _U32, _U16, _BYTES, _SIZE]
+_SIZE, _U16, _U32, _BYTES, _WIDTHS = ctypes.c_size_t, ctypes.c_uint16, ctypes.c_uint32, ctypes.c_char_p, ctypes.POINTER(ctypes.c_uint16)
+_library.gs1_read_message.argtypes = _library.gs1_read_elements.argtypes = _library.gs1_read_gtin.argtypes = [_BYTES, _SIZE, _U16, _RawAnswer]
+_library.gs1_read_row.argtypes = [_WIDTHS, _SIZE, _U16, _RawAnswer]
+_library.gs1_read_dots.argtypes = [_BYTES, _U32, _U16, _RawAnswer]
+_library.gs1_find.argtypes = [_WIDTHS, _SIZE, _U16, _BYTES, _SIZE]
+_library.gs1_find_dots.argtypes = [_BYTES, _U32, _U16, _BYTES, _SIZE]
 _library.gs1_c_picture.argtypes = [
     ctypes.c_void_p, _SIZE, _U32, _U32, _SIZE, ctypes.c_uint8, _U16, ctypes.c_void_p, _SIZE, ctypes.c_void_p, _SIZE, _BYTES, _SIZE]
 _library.gs1_c_picture_room.argtypes = [_U32, _U32]
 _library.gs1_c_date.argtypes = [_BYTES, _SIZE, _U16, _BYTES, _SIZE]
-_library.gs1_c_scan.argtypes = [_BYTES, _SIZE, _U16, _BYTES, _SIZE]
-_library.gs1_c_gtin.argtypes = [_BYTES, _SIZE, _BYTES, _SIZE]
 _library.gs1_c_digit.argtypes = [_BYTES, _SIZE, _BYTES, _SIZE]
-_library.gs1_c_text.argtypes = [_BYTES, _SIZE, _U16, _BYTES, _SIZE]
-_library.gs1_c_text_elements.argtypes = [_BYTES, _SIZE, _U16, _BYTES, _SIZE]
 _library.gs1_c_symbol.argtypes = [_U32, _BYTES, _SIZE, _U16, _BYTES, _SIZE]
 _library.gs1_c_label.argtypes = [_U32, _BYTES, _SIZE, _U16, _U16, _U16, _U16, _BYTES, _SIZE]
-for _name in ("row_elements", "find", "dots_elements", "find_dots", "picture", "picture_room", "date", "scan", "gtin", "digit",
-              "text", "text_elements", "label", "symbol"):
-    getattr(_library, f"gs1_c_{_name}").restype = _SIZE
+for _name in ("gs1_find", "gs1_find_dots", "gs1_c_picture", "gs1_c_picture_room", "gs1_c_date", "gs1_c_digit", "gs1_c_label", "gs1_c_symbol"):
+    getattr(_library, _name).restype = _SIZE
 
 
 def _sources() -> str:
@@ -124,11 +138,11 @@ class Refusal(ValueError):
 
 
 @lru_cache(maxsize=None)
-def _remedies() -> Dict[str, Tuple[str, str]]:
-    """The cause and the remedy of each number, from the file that tables/remedies makes."""
+def _remedies() -> Dict[str, Tuple[str, str, str]]:
+    """The cause, the remedy and the name of each number, from the file that tables/remedies makes."""
     import json  # Not at every start: it takes a tenth of it.
 
-    told: Dict[str, Tuple[str, str]] = json.loads(Path(__file__).with_name("remedies.json").read_text("utf-8"))
+    told: Dict[str, Tuple[str, str, str]] = json.loads(Path(__file__).with_name("remedies.json").read_text("utf-8"))
     return told
 
 
@@ -231,6 +245,23 @@ class Answer:
     """The symbology identifier: ``]E0`` for EAN-13, UPC-A and UPC-E, ``]E4`` for EAN-8, ``]I1`` for ITF-14, ``]C1`` for
     GS1-128, or another that a scanner sent; None if the scanner sent none."""
     elements: Tuple[Element, ...]
+    symbol: Optional[SymbolKind] = field(default=None, repr=False, compare=False)
+    """The kind of symbol, such as ``upca``. In rows and dots it is known exactly. Of the text of a scanner it is what the
+    identifier says; behind ``]E0`` it is a guess from the number of digits, since a scanner may send a UPC-E as the 12 digits
+    of a UPC-A. None if it is not known: without an identifier, in pictures, and in the replies of a running hub."""
+
+    if not TYPE_CHECKING:
+        def __getattr__(self, name: str) -> Any:
+            """The elements, when they are first asked for. Two threads may both make them, alike."""
+            told = self.__dict__.get("_told") if name == "elements" else None
+            if told is None:
+                raise AttributeError(f"{type(self).__name__!r} object has no attribute {name!r}")
+            elements = self.__dict__["elements"] = _elements_at(*told)
+            return elements
+
+    def __getstate__(self) -> Dict[str, Any]:
+        """What pickles and copies have: the fields."""
+        return {"identifier": self.identifier, "elements": self.elements, "symbol": self.symbol}
 
     @property
     def text(self) -> str:
@@ -240,8 +271,9 @@ class Answer:
 
     @property
     def gtin(self) -> Optional[str]:
-        """The 14 digits of the GTIN, if the first element is one."""
-        return self.elements[0].value if self.elements[0].ai == "01" else None
+        """The 14 digits of the GTIN, wherever 01 stands; None if there is none, or two that differ."""
+        values = {element.value for element in self.elements if element.ai == "01"}
+        return values.pop() if len(values) == 1 else None
 
     def __getitem__(self, ai: str) -> Element:
         """The first element with this Application Identifier.
@@ -319,6 +351,44 @@ def _ask(call: Any, *words: Any, room: int = _LINE) -> bytes:
         room = length
 
 
+def _read(call: Any, *words: Any) -> Answer:
+    """The answer with which a call fills a struct; raises its error if it is one. Of the elements it keeps the text and the places."""
+    raw = _RawAnswer()
+    call(*words, raw)
+    fault, place, symbol, count, length, _, identifier, text = _HEAD.unpack_from(raw)
+    if fault:
+        raise Refusal(fault, _remedies()[str(fault)][2], None if place == _NO_PLACE else place)
+    answer = object.__new__(Answer)
+    answer.__dict__.update(
+        identifier=identifier[:3].decode("ascii") if identifier[0] else None, symbol=_SYMBOLS[symbol],
+        _told=(text[:length].decode("ascii"), raw[_HEAD.size:_HEAD.size + count * _PLACE.size]))
+    return answer
+
+
+def _text_and_places(answer: Answer) -> Tuple[str, bytes]:
+    """What :func:`_read` keeps of the elements of an answer."""
+    told: Tuple[str, bytes] = answer.__dict__["_told"]
+    return told
+
+
+def _elements_at(text: str, places: bytes) -> Tuple[Element, ...]:
+    """The elements at these places of a text, made without the constructor, which takes twice the time. Without a day or a time
+    the None of the class stands. Python's dates do not have the year 0."""
+    elements = []
+    for ai, value, end, named, year, month, day, last_year, last_month, last_day, hour, minute, second, _, _ in _PLACE.iter_unpack(places):
+        element = object.__new__(Element)
+        of = element.__dict__
+        of["ai"], of["value"] = text[ai:value], text[value:end]
+        if named & _NAMES_DAY and year:
+            of["date"] = datetime.date(year, month, day)
+        if named & _NAMES_TIME:
+            of["time"] = datetime.time(hour, minute, second)
+        if named & _NAMES_LAST_DAY and last_year:
+            of["until"] = datetime.date(last_year, last_month, last_day)
+        elements.append(element)
+    return tuple(elements)
+
+
 def _refusal(line: str) -> Optional[Refusal]:
     """The error that a line reports, if it does."""
     told = _LINE_OF_REFUSAL.fullmatch(line)
@@ -334,7 +404,7 @@ def _with_before(refusal: Refusal, text: bytes, terms: int) -> Refusal:
     if place is not None and place <= len(text) and refusal.name != "Words":
         refusal.ai = _values.ai_at(text[place:place + 4].decode("latin-1"))
         if place > 0:
-            refusal.before = _parse(text[:place], terms)
+            refusal.before = _parse(text[:place], terms).elements
     return refusal
 
 
@@ -345,19 +415,6 @@ def _line(answer: bytes) -> str:
     if refusal:
         raise refusal
     return line
-
-
-def _line_of_elements(answer: bytes, text: bytes, terms: int) -> str:
-    """The line of an answer to an element string; raises its error if it is one."""
-    try:
-        return _line(answer)
-    except Refusal as refusal:
-        raise _with_before(refusal, text, terms)
-
-
-def _answer(answer: bytes, terms: int) -> Answer:
-    """The answer; raises its error if it is one."""
-    return _answer_of(_line(answer), terms)
 
 
 def _answer_of(line: str, terms: int) -> Answer:
@@ -395,9 +452,9 @@ def _until(ai: str, value: str, terms: int) -> Optional[datetime.date]:
     return _element(f"17={value[6:]}", terms).date if ai == "7007" and len(value) == 12 else None
 
 
-def _places(lines: str) -> List[Tuple[int, int]]:
-    """The first run and the number of runs of each symbol that was found."""
-    return [(int(first), int(count)) for first, count, _ in (line.split(" ", 2) for line in lines.splitlines())]
+def _places(call: Any, *words: Any) -> List[Tuple[int, int]]:
+    """The first run and the number of runs of each symbol that a call finds."""
+    return [(int(first), int(count)) for first, count, _ in (line.split(" ", 2) for line in _line(_ask(call, *words)).splitlines())]
 
 
 def _bytes(text: Union[str, bytes]) -> bytes:
@@ -424,27 +481,36 @@ def _terms(year: int, ais: Ais) -> int:
     return _EVERY_AI | year if ais == "all" else year
 
 
-def _ask_of_widths(call: Any, widths: Sequence[int], terms: int) -> bytes:
-    """What a call answers to widths."""
+_Said = TypeVar("_Said")
+
+
+def _of_widths(ask: Callable[..., _Said], call: Any, widths: Sequence[int], terms: int) -> _Said:
+    """What a call says about widths."""
     if any(width < 0 for width in widths):
         raise ValueError("a width is below 0")
     row = (_U16 * len(widths))(*(min(width, _MOST) for width in widths))
-    answer = _ask(call, row, len(widths), terms)
-    # An error of the year or of the number of runs comes first.
-    if any(width > _MOST for width in widths) and answer not in (b"refused 42 Words", b"refused 18 BadRuns"):
-        raise Refusal(17, "TooWide")
-    return answer
+    is_narrow = all(width <= _MOST for width in widths)
+    try:
+        said = ask(call, row, len(row), terms)
+    except Refusal as refusal:
+        # An error of the year or of the number of runs comes before that of a width.
+        if is_narrow or refusal.name in ("Words", "BadRuns"):
+            raise
+    else:
+        if is_narrow:
+            return said
+    raise Refusal(17, "TooWide")
 
 
-def _ask_of_dots(call: Any, dots: Union[bytes, bytearray, memoryview], width: int, terms: int) -> bytes:
-    """What a call answers to packed dots."""
+def _of_dots(ask: Callable[..., _Said], call: Any, dots: Union[bytes, bytearray, memoryview], width: int, terms: int) -> _Said:
+    """What a call says about packed dots."""
     if width < 0:
         raise ValueError("the width is below 0")
     packed = bytes(dots)
     if width > 8 * len(packed):
         # As one dot of no byte, since the number may have more than 32 bits.
-        packed, width = b"", 1
-    return _ask(call, packed, len(packed), min(width, _MOST + 1), terms)
+        return ask(call, None, 1, terms)
+    return ask(call, packed, min(width, _MOST + 1), terms)
 
 
 def _widths(dots: Union[bytes, bytearray, memoryview], width: int) -> List[int]:
@@ -463,8 +529,7 @@ def read_row(widths: Sequence[int], year: int, *, ais: Ais = "all") -> Answer:
     :raises Refusal: it is no row, or shows no symbol with elements; 42 ``Words`` if the year is out of range.
     :raises ValueError: a width is below 0.
     """
-    terms = _terms(year, ais)
-    return _answer(_ask_of_widths(_library.gs1_c_row_elements, widths, terms), terms)
+    return _of_widths(_read, _library.gs1_read_row, widths, _terms(year, ais))
 
 
 def find(widths: Sequence[int], year: int, *, ais: Ais = "all") -> List[Found]:
@@ -476,7 +541,7 @@ def find(widths: Sequence[int], year: int, *, ais: Ais = "all") -> List[Found]:
     :raises Refusal: 18 ``BadRuns`` or 17 ``TooWide`` if it is no row; 42 ``Words`` if the year is out of range.
     :raises ValueError: a width is below 0.
     """
-    places = _places(_line(_ask_of_widths(_library.gs1_c_find, widths, _terms(year, ais))))
+    places = _of_widths(_places, _library.gs1_find, widths, _terms(year, ais))
     return [Found(first, count, read_row(widths[first:first + count], year, ais=ais)) for first, count in places]
 
 
@@ -515,8 +580,7 @@ def read_dots(dots: Union[bytes, bytearray, memoryview], width: int, year: int, 
         with elements; 42 ``Words`` if the year is out of range.
     :raises ValueError: the width is below 0.
     """
-    terms = _terms(year, ais)
-    return _answer(_ask_of_dots(_library.gs1_c_dots_elements, dots, width, terms), terms)
+    return _of_dots(_read, _library.gs1_read_dots, dots, width, _terms(year, ais))
 
 
 def find_dots(dots: Union[bytes, bytearray, memoryview], width: int, year: int, *, ais: Ais = "all") -> List[Found]:
@@ -527,7 +591,7 @@ def find_dots(dots: Union[bytes, bytearray, memoryview], width: int, year: int, 
         year is out of range.
     :raises ValueError: the width is below 0.
     """
-    places = _places(_line(_ask_of_dots(_library.gs1_c_find_dots, dots, width, _terms(year, ais))))
+    places = _of_dots(_places, _library.gs1_find_dots, dots, width, _terms(year, ais))
     widths = _widths(dots, width) if places else []
     return [Found(first, count, read_row(widths[first:first + count], year, ais=ais)) for first, count in places]
 
@@ -555,12 +619,13 @@ def read_scan(text: Union[str, bytes], year: int, *, ais: Ais = "all") -> Answer
     """
     said = _bytes(text)
     terms = _terms(year, ais)
-    answer = _ask(_library.gs1_c_scan, said, len(said), terms)
-    if said[:3] in _ELEMENT_STRINGS:
+    try:
+        return _read(_library.gs1_read_message, said, len(said), terms)
+    except Refusal as refusal:
+        if said[:3] not in _ELEMENT_STRINGS:
+            raise
         # Places do not count a separator at the beginning.
-        elements = re.sub(b"^\x1d", b"", said[3:].replace(b"^", b"\x1d"))
-        return _answer_of(_line_of_elements(answer, elements, terms), terms)
-    return _answer(answer, terms)
+        raise _with_before(refusal, re.sub(b"^\x1d", b"", said[3:].replace(b"^", b"\x1d")), terms)
 
 
 def read_gtin(text: Union[str, bytes]) -> str:
@@ -569,7 +634,8 @@ def read_gtin(text: Union[str, bytes]) -> str:
     :raises Refusal: it is no GTIN: 1 ``Length``, 2 ``NotDigit`` or 3 ``CheckDigit``.
     """
     digits = _bytes(text)
-    return _line(_ask(_library.gs1_c_gtin, digits, len(digits))).partition(" ")[2]
+    element, _ = _text_and_places(_read(_library.gs1_read_gtin, digits, len(digits), _ANY_YEAR))
+    return element[len("01"):]
 
 
 def check_digit(text: Union[str, bytes]) -> int:
@@ -586,10 +652,8 @@ def read_elements(text: Union[str, bytes], year: int, *, ais: Ais = "all") -> st
 
     :raises Refusal: its first fault, 4 ``Empty`` to 11 ``TooLong``; 42 ``Words`` if the year is out of range.
     """
-    elements = _bytes(text)
-    terms = _terms(year, ais)
-    answer = _ask(_library.gs1_c_text, elements, len(elements), terms)
-    return _line_of_elements(answer, elements, terms).partition(" ")[2]
+    string, places = _text_and_places(_parse(_bytes(text), _terms(year, ais)))
+    return "".join([f"({string[it[0]:it[1]]}){string[it[1]:it[2]]}" for it in _PLACE.iter_unpack(places)])
 
 
 def parse_elements(text: Union[str, bytes], year: int, *, ais: Ais = "all") -> Tuple[Element, ...]:
@@ -597,13 +661,15 @@ def parse_elements(text: Union[str, bytes], year: int, *, ais: Ais = "all") -> T
 
     :raises Refusal: as :func:`read_elements`.
     """
-    return _parse(_bytes(text), _terms(year, ais))
+    return _parse(_bytes(text), _terms(year, ais)).elements
 
 
-def _parse(text: bytes, terms: int) -> Tuple[Element, ...]:
-    """The elements of an element string."""
-    answer = _ask(_library.gs1_c_text_elements, text, len(text), terms)
-    return _elements(_line_of_elements(answer, text, terms).partition(" ")[2], terms)
+def _parse(text: bytes, terms: int) -> Answer:
+    """What an element string says."""
+    try:
+        return _read(_library.gs1_read_elements, text, len(text), terms)
+    except Refusal as refusal:
+        raise _with_before(refusal, text, terms)
 
 
 def compose(elements: Iterable[Union[Element, Tuple[str, str]]], year: Optional[int] = None) -> str:

@@ -8,7 +8,7 @@ from pathlib import Path
 
 import pytest
 
-from noriladle import __version__, _german
+from noriladle import __version__, _german, _sources
 from noriladle import __main__ as command
 from noriladle.__main__ import COMMANDS, main, parser_of
 from noriladle.commands import WrongWords

@@ -1,6 +1,11 @@
 """The module's answers to worked cases, and what it raises."""
+import base64
+import copy
+import dataclasses
 import datetime
+import pickle
 import random
+import threading
 
 import pytest
 
@@ -12,6 +17,11 @@ EAN13 = [int(width) for width in """11 1 1 1 1 2 3 1 1 1 2 3 1 2 2 2 2 2 2 1 1 1
 FRAMED = [3, 2] + EAN13 + [2, 3]
 DATED = Element("17", "261231", datetime.date(2026, 12, 31))
 READ = Answer("]E0", (Element("01", "09501101530003"),))
+# The pickle of an answer that version 1.1 made: of "]C10109501101530003\x1d17261231\x1d10LOT7" in 2026.
+OLD_PICKLE = base64.b64decode(
+    "gASV+AAAAAAAAACMCW5vcmlsYWRsZZSMBkFuc3dlcpSTlCmBlH2UKIwKaWRlbnRpZmllcpSMA11DMZSMCGVsZW1lbnRzlGgAjAdFbGVtZW50lJOUKYGUfZQojAJhaZSMAjAx"
+    "lIwFdmFsdWWUjA4wOTUwMTEwMTUzMDAwM5SMBGRhdGWUTowEdGltZZROjAV1bnRpbJROdWJoCSmBlH2UKGgMjAIxN5RoDowGMjYxMjMxlGgQjAhkYXRldGltZZSMBGRhdGWU"
+    "k5RDBAfqDB+UhZRSlGgRTmgSTnViaAkpgZR9lChoDIwCMTCUaA6MBExPVDeUaBBOaBFOaBJOdWKHlHViLg==")
 IMAGE = b"P4\n113 3\n" + bytes(15) + bytes.fromhex("00158A7666539954E85CB972854000") + bytes(15)
 
 
@@ -163,6 +173,82 @@ def test_reads_what_it_draws():
     image = noriladle.draw_label(Kind.GS1128, "10AB\x1d17261231", 2026, width=480, height=120)
     row = image[-60 * 60:-60 * 59]
     assert str(noriladle.read_dots(row, 480, 2026)) == "]C1 (10)AB(17)261231"
+
+
+LOT = "]C10109501101530003\x1d17261231\x1d10LOT7"
+LOT_ELEMENTS = (Element("01", "09501101530003"), DATED, Element("10", "LOT7"))
+
+
+def test_an_answer_is_a_value():
+    """Its elements are made when they are first asked for, and nobody notices."""
+    def made():
+        return noriladle.read_scan(LOT, 2026)
+
+    wanted = Answer("]C1", LOT_ELEMENTS)
+    assert made() == wanted and hash(made()) == hash(wanted) and repr(made()) == repr(wanted) and made() != Answer("]d2", LOT_ELEMENTS)
+    assert {made(), wanted} == {wanted} and made().elements == LOT_ELEMENTS and [hash(it) for it in made()] == [hash(it) for it in LOT_ELEMENTS]
+    assert dataclasses.asdict(made()) == {**dataclasses.asdict(wanted), "symbol": "gs1128"}
+    assert dataclasses.replace(made(), identifier="]d2") == Answer("]d2", LOT_ELEMENTS)
+    for same in (copy.copy, copy.deepcopy, *(lambda it, n=n: pickle.loads(pickle.dumps(it, n)) for n in range(pickle.HIGHEST_PROTOCOL + 1))):
+        again = same(made())
+        assert (again, again.symbol, again.elements[1].date) == (wanted, "gs1128", datetime.date(2026, 12, 31))
+    with pytest.raises(dataclasses.FrozenInstanceError):
+        made().elements = ()
+    with pytest.raises(AttributeError, match="'Answer' object has no attribute 'element'"):
+        made().element
+
+
+def test_an_answer_of_version_1_1_is_read():
+    old = pickle.loads(OLD_PICKLE)
+    assert (old, old.symbol, old.gtin) == (noriladle.read_scan(LOT, 2026), None, "09501101530003")
+
+
+def test_two_threads_ask_for_the_elements():
+    answers, found = [noriladle.read_scan(LOT, 2026) for _ in range(2000)], []
+    begun = threading.Barrier(4)
+
+    def ask():
+        begun.wait()
+        found.append([it.elements for it in answers])
+
+    threads = [threading.Thread(target=ask) for _ in range(4)]
+    for thread in threads:
+        thread.start()
+    for thread in threads:
+        thread.join()
+    assert found == [[LOT_ELEMENTS] * 2000] * 4
+
+
+@pytest.mark.parametrize("kind, number, symbol", [
+    ("ean13", "4006381333931", "ean13"), ("upca", "012345678905", "upca"), ("ean13", "0012345678905", "upca"), ("upce", "00012345000065", "upce"),
+    ("ean8", "96385074", "ean8"), ("itf14", "09501101530003", "itf14"), ("gs1128", "10AB", "gs1128"),
+])
+def test_the_symbol_of_a_row_is_exact(kind, number, symbol):
+    image = noriladle.draw_label(kind, number, 2026, module=1, width=240, height=10)
+    row = image[-30 * 5:-30 * 4]
+    assert noriladle.read_dots(row, 240, 2026).symbol == symbol
+    found, = noriladle.find_dots(row, 240, 2026)
+    assert found.answer.symbol == symbol
+
+
+@pytest.mark.parametrize("text, symbol", [
+    ("]E04006381333931", "ean13"), ("]E0012345678905", "upca"), ("]E00012345678905", "upca"), ("]E001234565", "upce"), ("]E0012345000065", "upca"),
+    ("]E496385074", "ean8"), ("]I109501101530003", "itf14"), ("]C110AB", "gs1128"), ("]e010AB", "databar"), ("]d210AB", "datamatrix"),
+    ("]Q310AB", "qr_code"), ("]J110AB", "dotcode"), ("]Q1https://id.gs1.org/01/09501101530003", "qr_code"),
+    ("]d1https://id.gs1.org/01/09501101530003", "datamatrix"), ("https://id.gs1.org/01/09501101530003", None), ("^10AB", None), ("9501101530003", None),
+])
+def test_the_symbol_of_a_scan_is_what_the_identifier_says(text, symbol):
+    assert noriladle.read_scan(text, 2026).symbol == symbol
+
+
+@pytest.mark.parametrize("text, gtin", [
+    ("]C10109501101530003", "09501101530003"), ("]C110AB^0109501101530003", "09501101530003"), ("]C110AB", None), ("]C10209501101530003" + "375", None),
+    ("]C101095011015300030109501101530003", "09501101530003"), ("]C1010950110153000310A^0109501101530010", None), ("]C110(01)09501101530003", None),
+])
+def test_the_gtin_wherever_it_stands(text, gtin):
+    answer = noriladle.read_scan(text, 2026)
+    assert answer.gtin == gtin == Answer("]C1", answer.elements).gtin
+    assert Answer(None, ()).gtin is None
 
 
 def test_reads_numbers():

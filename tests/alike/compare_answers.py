@@ -21,6 +21,7 @@ LINES, PACKAGE, PROGRAM, WORK = sys.argv[1:5]
 COUNT = int(sys.argv[5])
 YEAR = 2026
 SEPARATOR = "\x1d"
+SYMBOLS = [None, "ean13", "upca", "upce", "ean8", "itf14", "gs1128", "databar", "datamatrix", "qr_code", "dotcode"]
 KINDS = [kind.name.lower() for kind in noriladle.Kind]
 DIGITS = {"ean13": (13, 12), "upca": (12,), "ean8": (8,), "upce": (12,), "itf14": (14, 13)}
 LETTERS = {"N": "0123456789", "X": "ABCabc019-./%&", "Y": "ABC0123-/#", "Z": "ABCabc019-_="}
@@ -97,9 +98,24 @@ def label(chance):
     return f"{KINDS.index(chance.choice(KINDS) if chance.random() < 0.05 else kind)} {digits}"
 
 
+def scan(chance):
+    """A text as a scanner sends it, mostly a good one, with a GTIN at any place or none."""
+    gtin = checked(some(chance, "0123456789", 14))
+    if chance.random() < 0.2:
+        digits = checked(some(chance, "01", 1) + some(chance, "0123456789", chance.choice([7, 11, 12])))
+        return f"{chance.choice([']E0', ']E0', ']E4', ']I1', ''])}{chance.choice([digits, gtin])}"
+    if chance.random() < 0.1:
+        return f"{chance.choice([']Q1', ']d1', ''])}https://id.gs1.org/01/{gtin}/10/A{some(chance, '019', 2)}"
+    parts = [element_string(chance, 1) for _ in range(chance.randrange(3))]
+    for at in range(chance.choice([0, 1, 1, 2])):
+        parts.insert(chance.randrange(len(parts) + 1), "01" + (gtin if at == 0 or chance.random() < 0.5 else checked(gtin + "0")[1:]))
+    return chance.choice(["]C1", "]e0", "]d2", "]Q3", "]J1", "^"]) + "^".join(parts)
+
+
 def made():
     chance = random.Random(17)
-    return [label(chance) for _ in range(COUNT)], ["- " + element_string(chance, 4) for _ in range(COUNT)]
+    return ([label(chance) for _ in range(COUNT)], ["- " + element_string(chance, 4) for _ in range(COUNT)],
+            ["= " + scan(chance) for _ in range(COUNT)])
 
 
 def pairs(elements):
@@ -125,6 +141,10 @@ def by_python(line):
         if line[0] == "-":
             elements = noriladle.parse_elements(text, YEAR)
             return f"data {pairs(elements)}", as_json([said_of(it) for it in elements])
+        if line[0] == "=":
+            answer = noriladle.read_scan(text, YEAR)
+            symbol = SYMBOLS.index(answer.symbol)
+            return f"scan {answer.identifier or '-'} {symbol} {answer.gtin or '-'} {pairs(answer.elements)}", ""
         symbol = noriladle.label_symbol(KINDS[int(line[0])], text, YEAR)
         return f"symbol {symbol.text} {symbol.quiet_left} {symbol.quiet_right} {''.join(map(str, symbol.widths))}", ""
     except noriladle.Refusal as refusal:
@@ -162,21 +182,25 @@ class Count:
 
 
 def main():
-    labels, texts = made()
-    lines, count = labels + texts, Count()
+    labels, texts, scans = made()
+    lines, count = labels + texts + scans, Count()
     wanted, values = zip(*map(by_python, lines))
     npm, told = zip(*(it.partition("\tvalues ")[::2] for it in asked_of(["node", f"{HERE}/npm_answers.mjs", PACKAGE], lines)))
     alike = {
         "C": count.compare("C", lines, wanted, asked_of([LINES], lines)),
         "npm": count.compare("npm", lines, wanted, npm),
         "page": count.compare("page", lines, wanted, asked_of(["node", f"{HERE}/page_answers.js"], lines)),
-        "program": count.compare("program", texts, [human(it) for it in wanted[COUNT:]], by_program(texts)),
-        "values": count.compare("values of npm", texts, values[COUNT:], told[COUNT:]),
+        "program": count.compare("program", texts, [human(it) for it in wanted[COUNT:-COUNT]], by_program(texts)),
+        "values": count.compare("values of npm", texts, values[COUNT:-COUNT], told[COUNT:-COUNT]),
     }
-    drawn, read = (sum(not it.startswith("refused") for it in part) for part in (wanted[:COUNT], wanted[COUNT:]))
+    parts = [wanted[:COUNT], wanted[COUNT:-COUNT], wanted[-COUNT:]]
+    drawn, read, scanned = (sum(not it.startswith("refused") for it in part) for part in parts)
+    later = sum(" 01=" not in it and "\t01=" in it for it in parts[2])
     print(f"{len(labels)} labels, of which {drawn} have a symbol; {len(texts)} texts, of which {read} are read")
+    print(f"{len(scans)} scans, of which {scanned} are read, {later} with a GTIN that is not first")
     print(f"as Python answers: {', '.join(f'{name} {number}' for name, number in alike.items())}; {count.differing} differ")
-    return count.differing != 0 or not 0.5 < drawn / COUNT < 0.99 or not 0.2 < read / COUNT < 0.99
+    return (count.differing != 0 or not 0.5 < drawn / COUNT < 0.99 or not 0.2 < read / COUNT < 0.99
+            or not 0.2 < scanned / COUNT < 0.99 or not 0.02 < later / COUNT)
 
 
 if __name__ == "__main__":

@@ -10,7 +10,11 @@ const inPage = vm.runInThisContext(`({
   async load() { gs1 = await Gs1.load(Uint8Array.from(atob(GS1_WASM_32), (c) => c.charCodeAt(0)), 32); core.year = 2026; },
   answer(line) {
     const text = line.slice(2);
-    if (line[0] === "-") return core.scan("^" + text).replace(/^- /, "data ");
+    const { refused: wrong, identifier, symbol, elements } = line[0] === "-" ? core.scan("^" + text) : line[0] === "=" ? core.scan(text) : {};
+    if (wrong) return wrong;
+    const pairs = elements?.map(({ ai, value }) => ai + "=" + value).join("\t");
+    if (line[0] === "-") return "data " + pairs;
+    if (line[0] === "=") return ["scan", identifier || "-", Gs1.symbols.indexOf(symbol), gtinOf(elements) ?? "-", pairs].join(" ");
     const { refused, digits, widths } = symbolOf({ kind: Gs1.kinds[line[0]], text, answer: { elements: [] } });
     return refused ?? ["symbol", digits, widths[0], widths.at(-1), widths.slice(1, -1).join("")].join(" ");
   },

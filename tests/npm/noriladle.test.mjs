@@ -4,6 +4,7 @@ import fs from "node:fs";
 import { createRequire } from "node:module";
 import path from "node:path";
 import test from "node:test";
+import { inspect } from "node:util";
 import { associations, doubts, load, Refusal, VERSION } from "noriladle";
 
 const gs1 = await load();
@@ -69,6 +70,36 @@ test("values as data", () => {
   }
   assert.equal(JSON.stringify(gs1.readScan("9501101530003", 2026)), '{"identifier":null,"elements":[{"ai":"01","title":"GTIN","value":"09501101530003"}]}');
   assert.equal(String(gs1.readScan("9501101530003", 2026)), "- (01)09501101530003");
+});
+
+test("an answer is a value", () => {
+  const answer = gs1.readScan("]d210AB\x1d17261231\x1d0109501101530003", 2026);
+  // The next call writes into the same memory.
+  gs1.readScan("]E09501101530003", 2026);
+  assert.deepEqual([answer.identifier, answer.symbol, answer.gtin, answer.text], ["]d2", "datamatrix", "09501101530003", "(10)AB(17)261231(01)09501101530003"]);
+  assert.deepEqual(answer.elements.map(({ ai, value, date }) => [ai, value, date]), [["10", "AB", undefined], ["17", "261231", "2026-12-31"], ["01", "09501101530003", undefined]]);
+  assert.ok(Object.isFrozen(answer.elements[0]) && answer.elements === answer.elements && answer["17"] === answer.elements[1]);
+  assert.deepEqual({ ...answer }, { identifier: "]d2", symbol: "datamatrix", elements: answer.elements });
+  assert.deepEqual(structuredClone(answer), { ...answer });
+  assert.match(inspect(answer), /^Answer \{\s+identifier: '\]d2',\s+symbol: 'datamatrix',\s+elements: \[\s+\{ ai: '10'/);
+});
+
+test("the symbol and the GTIN", () => {
+  for (const [text, symbol, gtin] of [
+    ["]E04006381333931", "ean13", "04006381333931"], ["]E0012345678905", "upca", "00012345678905"], ["]E001234565", "upce", "00012345000065"], ["]E496385074", "ean8", "00000096385074"],
+    ["]I109501101530003", "itf14", "09501101530003"], ["]C110AB", "gs1128", undefined], ["]e010AB", "databar", undefined], ["]Q310AB", "qr_code", undefined], ["]J110AB", "dotcode", undefined],
+    ["9501101530003", undefined, "09501101530003"], ["]C1010950110153000310A^0109501101530010", "gs1128", undefined], ["]C1010950110153000310A^0109501101530003", "gs1128", "09501101530003"],
+    ["]C110(01)09501101530003", "gs1128", undefined],
+  ]) {
+    const answer = gs1.readScan(text, 2026);
+    assert.deepEqual([answer.symbol, answer.gtin], [symbol, gtin], text);
+  }
+  const row = (kind, text) => {
+    const { quietLeft, quietRight, widths } = gs1.labelSymbol(kind, text, 2026);
+    return [quietLeft, ...widths, quietRight];
+  };
+  for (const [kind, text, symbol = kind] of [["ean13", "4006381333931"], ["ean13", "0012345678905", "upca"], ["upca", "012345678905"], ["upce", "00012345000065"], ["ean8", "96385074"], ["itf14", "09501101530003"],
+    ["gs1128", "10AB"]]) assert.equal(gs1.readRow(row(kind, text), 2026).symbol, symbol, kind);
 });
 
 test("every Application Identifier, or those of the profile", () => {

@@ -1,10 +1,11 @@
 // What the types let a caller write, and what they refuse.
-import { associations, doubts, load, Refusal, type Answer, type Element, type LabelSymbol } from "noriladle";
+import { associations, doubts, load, Refusal, type Answer, type Element, type LabelSymbol, type SymbolKind } from "noriladle";
 
 const gs1 = await load();
 const answer: Answer = gs1.readScan("]E09501101530003", 2026);
 const elements: readonly Element[] = [...answer];
 const gtin: string | undefined = answer.gtin;
+const kind: SymbolKind | undefined = answer.symbol;
 const expiry: string | undefined = answer["17"]?.date;
 const digit: number = gs1.checkDigit("950110153000");
 const image: Uint8Array = gs1.drawLabel("ean13", "9501101530003", { year: 2026, width: 113, height: 3, ais: "profile" });
@@ -19,8 +20,10 @@ gs1.readScan("]E09501101530003");
 gs1.drawLabel("qr", "1", { year: 2026, width: 1, height: 1 });
 // @ts-expect-error: an answer is not to be changed.
 answer.identifier = "]E4";
+// @ts-expect-error: there is no such symbol.
+answer.symbol === "code39";
 // @ts-expect-error: there are two sets of AIs.
 gs1.readScan("]E09501101530003", 2026, { ais: "some" });
 // @ts-expect-error: an element has no such part.
 answer["17"]?.day;
-export { elements, gtin, expiry, digit, image, symbol, corners, text, told };
+export { elements, gtin, kind, expiry, digit, image, symbol, corners, text, told };

@@ -143,6 +143,7 @@ def checks(person):
     pairs = [[(it["ai"], it["value"], it.get("date")) for it in one.get("elements", [])] for one in saved]
     person.same("the elements that are saved", pairs, [[("01", "04012345010008", None)], [], [("10", "AB", None), ("17", "261231", "2026-12-31")],
                 [("01", "09501101530003", None), ("10", "LOT7", None), ("17", "261231", "2026-12-31")], [], []])
+    person.same("the GTINs that are saved", [one.get("gtin") for one in saved], ["04012345010008", None, None, "09501101530003", None, None])
     with open(person.saved("#check-csv", "checked.csv"), encoding="utf-8-sig", newline="") as file:
         rows = list(csv.reader(file))
     person.same("the lines that are saved", [row[0] for row in rows[1:]], ["1", "2", "3", "3", "4", "4", "4", "5", "6"])

@@ -10,6 +10,8 @@ import unittest
 
 ROOT = pathlib.Path(__file__).resolve().parents[2]
 FILES = ["docs/FAULTS.md", "shop/en.json", "shop/de.json", "crates/gs1_hub/src/remedies.rt"]
+# That with the names alone.
+NAMES = "page/gs1.js"
 # What is replaced in the table, by what, and what is said then.
 WRONG = [
     ("type the text\ttype the text\t", "type the text\t-\t", "tables/remedies.tsv:11: a sentence is missing"),
@@ -25,7 +27,7 @@ WRONG = [
 def copied(folder):
     """A copy of the files that the script reads and writes."""
     copy = pathlib.Path(folder)
-    for file in [*FILES, "tables/remedies", "tables/remedies.tsv"]:
+    for file in [*FILES, NAMES, "tables/remedies", "tables/remedies.tsv"]:
         (copy / file).parent.mkdir(parents=True, exist_ok=True)
         shutil.copy(ROOT / file, copy / file)
     return copy
@@ -59,10 +61,10 @@ class RemediesTest(unittest.TestCase):
             self.assertIn('"the field was left empty: type a text",', (copy / FILES[3]).read_text(encoding="utf-8"))
 
     def test_each_file_is_compared(self):
-        for file in FILES:
+        for file in [*FILES, NAMES]:
             with self.subTest(file), tempfile.TemporaryDirectory() as name:
                 copy = copied(name)
-                self.replace(copy / file, "eintippen" if "de." in file else "type the text", "other")
+                self.replace(copy / file, "eintippen" if "de." in file else "ValueDate" if file == NAMES else "type the text", "other")
                 said = self.ran(copy, "--check")
                 self.assertEqual((said.returncode, said.stdout), (1, f"{file}: its remedies are not those of tables/remedies.tsv\n"))
 
@@ -78,7 +80,7 @@ class RemediesTest(unittest.TestCase):
             for file in ["it.json", "it.js"]:
                 self.assertEqual(self.ran(ROOT, "--to", str(folder / file)).returncode, 0)
             told = json.loads((folder / "it.json").read_text(encoding="utf-8"))
-            self.assertEqual((sorted(map(int, told)), told["4"]), (list(range(1, 45)), ["the field was left empty", "type the text"]))
+            self.assertEqual((sorted(map(int, told)), told["4"]), (list(range(1, 45)), ["the field was left empty", "type the text", "Empty"]))
             self.assertIn('\n  "4": "type the text",\n', (folder / "it.js").read_text(encoding="utf-8"))
 
     def test_what_is_refused(self):
