@@ -11,8 +11,8 @@ from ._scans import SECONDS, new_series
 _BETWEEN, _REFUSED = 0.1, 1.0
 """Seconds until the next attempt, if there is no gateway, and if it has refused the scanner."""
 
-Said = Callable[[int, str], None]
-"""Called with the number of a scan, and its answer or why it has none."""
+Said = Callable[[int, str, bytes], None]
+"""Called with the number of a scan, its answer or why it has none, and its text, which is empty without an answer."""
 
 
 def now() -> float:
@@ -100,7 +100,7 @@ class Link:
         """Gives up scans that have waited too long for a gateway."""
         while self._kept and self._kept[0].until <= now():
             self._lost += 1
-            self._said(self._kept.popleft().number, f"unread: {self._why or 'no gateway'}")
+            self._said(self._kept.popleft().number, f"unread: {self._why or 'no gateway'}", b"")
 
     def take_answers(self) -> None:
         """Reads what the gateway has sent. Its connection may have ended."""
@@ -168,8 +168,7 @@ class Link:
             if not self._is_open:
                 self._begin(number, said[len("next "):] or ("" if self._is_fresh else self._series))
         elif self._sent and number == self._sent[0].number and self._sent[0].until > now():
-            self._sent.popleft()
-            self._said(number, said)
+            self._said(number, said, self._sent.popleft().text[1:])
 
     def _begin(self, number: int, series: str) -> None:
         """The gateway expects this number. In the same series the numbers go on from the larger one; in another from the
@@ -214,4 +213,4 @@ class Link:
     def _give_up(self, why: str) -> None:
         self._lost += len(self._sent)
         while self._sent:
-            self._said(self._sent.popleft().number, f"unread: {why}")
+            self._said(self._sent.popleft().number, f"unread: {why}", b"")

@@ -1,4 +1,5 @@
 """The scanner, whose device is a pty, or a pipe of a keyboard's events; texts are checked by the library."""
+import argparse
 import os
 import re
 import stat
@@ -12,7 +13,7 @@ import pytest
 
 from gateway_and_scanners import NORILADLE, Scanner, Serial
 from noriladle._keys import EVENT, KEYS, Keyboard, events_of
-from noriladle.commands.scanner import _checked, digits_of
+from noriladle.commands.scanner import _checked, _typed, digits_of
 from program_and_rows import noise
 
 LIMIT = 180
@@ -68,6 +69,27 @@ def test_check(text, wanted):
 ])
 def test_digits_that_are_typed(gtin, digits):
     assert digits_of(gtin) == digits
+
+
+@pytest.mark.parametrize("said, text, gtin", [
+    ("]E0 (01)09501101530003", b"]E09501101530003", "9501101530003"),
+    ("]C1 (01)09501101530003(10)A", b"]C1010950110153000310A", "9501101530003"),
+    ("]C1 (10)A(01)19501101530000", b"]C110A\x1d0119501101530000", "19501101530000"),  # 01 is not first.
+    ("]C1 10=A\t01=19501101530000", b"]C110A\x1d0119501101530000", "19501101530000"),
+    ("]C1 (10)(01)09501101530003", b"]C110(01)09501101530003", ""),  # A batch that looks like a GTIN.
+    ("]C1 (01)09501101530003(10)A(01)09501101530010", b"]C1010950110153000310A\x1d0109501101530010", ""),  # Two that differ.
+    ("]C1 (10)AB", b"]C110AB", ""),
+    # What another gateway reads otherwise: only a GTIN in front is certain.
+    ("]C1 (01)09501101530003(09)A", b"]C10109501101530003" b"09A", "9501101530003"),
+    ("]C1 01=09501101530003\t09=A", b"]C10109501101530003" b"09A", "9501101530003"),
+    ("]C1 (09)A(01)09501101530003", b"]C109A\x1d0109501101530003", ""),
+    ("]C1 (10)AB", b"]C10109501101530003", ""),
+])
+def test_the_gtin_that_is_typed(said, text, gtin):
+    words = argparse.Namespace(type="gtin", year=2026, ais="all")
+    assert _typed(words, said, text) == gtin
+    words.type = "elements"
+    assert _typed(words, said, text) == said[4:]
 
 
 @pytest.mark.parametrize("end", [b"\r", b"\n", b"\r\n"])

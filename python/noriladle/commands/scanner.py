@@ -11,6 +11,7 @@ With --gateway the texts go to the tills that watch the lane; without it they ar
 from __future__ import annotations
 
 import argparse
+import contextlib
 import os
 import re
 import select
@@ -25,7 +26,7 @@ from .. import Ais, Refusal, _service, read_scan
 from .._keys import EVENT, FOREIGN, LOST, Keyboard, events_of, grab, make_keyboard
 from .._link import Link, now
 from .._log import writer
-from .._scans import SECONDS, is_name
+from .._scans import SECONDS, is_name, text_of
 from .._service import notify
 from . import REFUSED, RIGHT, WrongWords, add_ais, add_year, tell
 
@@ -230,23 +231,24 @@ class _Scanner:
         elif self._link:
             self._link.scan(text, at)
         else:
-            self._said(self._number, _checked(text, self._words.year, self._words.ais))
+            self._said(self._number, _checked(text, self._words.year, self._words.ais), text)
             self._number += 1
 
     def _unread(self, why: str) -> None:
         if self._link:
             self._link.unread(why)
         else:
-            self._said(self._number, f"unread: {why}")
+            self._said(self._number, f"unread: {why}", b"")
             self._number += 1
 
-    def _said(self, number: int, said: str) -> None:
-        """Prints an answer, and types what it says. If nobody reads it any more, only a till needs the scanner."""
+    def _said(self, number: int, said: str, text: bytes) -> None:
+        """Prints the answer to a text, and types what it says. If nobody reads it any more, only a till needs the scanner."""
         writer(1)(f"{number} {said}")
         if writer(1).is_broken and not self._link:
             self._end()
         if self._typist is not None and not said.startswith(("refused ", "unread: ")):
-            _type(self._typist, self._words.type, said)
+            if typed := _typed(self._words, said, text):
+                os.write(self._typist, events_of(f"{typed}\r"))
 
     def _note(self, why: str) -> None:
         writer(2)(f"noriladle scanner: {why}")
@@ -260,12 +262,20 @@ def _checked(text: bytes, year: int, ais: Ais) -> str:
         return str(refusal)
 
 
-def _type(device: int, what: str, said: str) -> None:
-    """Types the GTIN or the elements of an answer, if it has them, and Enter."""
+def _typed(words: argparse.Namespace, said: str, text: bytes) -> str:
+    """What is typed of the answer to a text: its elements, or the digits of its GTIN, if it has one."""
+    return said.partition(" ")[2] if words.type == "elements" else digits_of(_gtin_of(said, text, words.year, words.ais))
+
+
+def _gtin_of(said: str, text: bytes, year: int, ais: Ais) -> str:
+    """The GTIN of the answer to a text, wherever it stands in it; empty if there is none, or two that differ. If the gateway reads the
+    text otherwise, it is the GTIN with which the answer begins: elsewhere a value may look like one."""
+    with contextlib.suppress(Refusal):
+        answer = read_scan(text, year, ais=ais)
+        if said in (text_of(answer, elements=False), text_of(answer, elements=True)):
+            return answer.gtin or ""
     found = _GTIN.match(said)
-    typed = said.partition(" ")[2] if what == "elements" else digits_of(found[1]) if found else ""
-    if typed:
-        os.write(device, events_of(f"{typed}\r"))
+    return found[1] if found else ""
 
 
 def digits_of(gtin: str) -> str:
