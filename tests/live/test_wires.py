@@ -403,6 +403,7 @@ def test_the_password_of_the_workers():
             assert said == "OK" or "has no permissions" in said, said
             return said == "OK"
 
+        assert keys.rows("north.0") == "nl:{5}:rows:north.0"  # As docs/REDIS.md has it.
         for lane in ("3", "any"):
             rows, answers = keys.rows(lane), keys.answers(lane)
             assert may("XREADGROUP", "GROUP", "workers", "x", "STREAMS", rows, ">") and may("XDEL", rows, "1-1") and may("XADD", answers, "*", "a", "b")

@@ -329,5 +329,6 @@ async def _load_again(gateway: Gateway, words: argparse.Namespace) -> bool:
         _tell_of_certificate(words.tls, gateway.log)
     for said in faults:
         gateway.log.fault(said)
-    gateway.log.note("loaded", file=words.config)
+    if not faults:
+        gateway.log.note("loaded", file=words.config)
     return not faults
