@@ -26,8 +26,8 @@ _SCAN = re.compile(rb"(\d{1,18})(?:([ \t])(.*))?", re.DOTALL)
 _TIMED_SCAN = re.compile(rb"(\d{1,18}) (\d{1,11}\.\d{3})(?:([ \t])(.*))?", re.DOTALL)
 ROWS_AHEAD, LEAST_AHEAD = 64, 4
 """How many rows of all connections may be under way before each has its share of them; and the least share."""
-PAUSE = 0.02
-"""After so many bytes without a line end as are kept, the connection is read again after these seconds."""
+PAUSE = 0.005
+"""How many seconds lie between two pieces of lines that are too long, of all connections together."""
 LINES = 64
 """After so many lines of one connection the others have their turn."""
 _HTTP = re.compile(rb"[A-Z]+ \S+ HTTP/[0-9.]+\r?")
@@ -79,8 +79,9 @@ class Connection:
         if self.task:
             self.task.cancel()
 
-    async def turns(self) -> AsyncIterator[List[bytes]]:
-        """The complete lines that have come, as lists, without blank ones."""
+    async def turns(self, skips: asyncio.Lock) -> AsyncIterator[List[bytes]]:
+        """The complete lines that have come, as lists, without blank ones. Connections skip lines that are too long one after the
+        other."""
         rest = b""
         while chunk := await self.reader.read(CUT):
             *ended, rest = (rest + chunk).split(b"\n")
@@ -90,7 +91,8 @@ class Connection:
                 self.waits()
                 yield lines
             elif len(rest) == CUT:
-                await asyncio.sleep(PAUSE)
+                async with skips:
+                    await asyncio.sleep(PAUSE)
 
 
 class Client(Protocol):
@@ -298,6 +300,7 @@ class Gateway:
         self.closed = ""
         self.pages: Set[Client] = set()
         self._connections: Set[Connection] = set()
+        self._skips = asyncio.Lock()
         self._by_tcp = 0
         self._name_metrics()
 
@@ -389,7 +392,7 @@ class Gateway:
         """Serves a connection. Returns why it is closed, unless the client ended it."""
         role: Optional[Role] = None
         try:
-            async for lines in connection.turns():
+            async for lines in connection.turns(self._skips):
                 if role is None:
                     lines = self._take_token(connection, lines)
                     if not lines:

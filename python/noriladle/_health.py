@@ -3,7 +3,7 @@ from __future__ import annotations
 
 import asyncio
 import contextlib
-import importlib.util
+import importlib
 import re
 from bisect import bisect_left
 from itertools import accumulate
@@ -142,7 +142,9 @@ async def serve(port: int, health: Health, metrics: Metrics, fault: Callable[[st
 
     :raises OSError: the port is taken.
     """
-    if not importlib.util.find_spec("prometheus_client"):
+    try:
+        importlib.import_module("prometheus_client")  # Now: later it would hold up the lanes.
+    except ImportError:
         fault(MISSING)
     clients = 0
 
@@ -164,13 +166,14 @@ async def _answer(head: bytes, health: Health, metrics: Metrics) -> bytes:
     """The answer to the head of a request."""
     first, *lines = head.split(b"\r\n")
     method, _, path = first.partition(b" ")
-    status, body = await _page(path.partition(b" ")[0], health, metrics)
     hosts = [line[5:].strip() for line in lines if line[:5].lower() == b"host:"]
     if len(hosts) != 1 or not _HOST.fullmatch(hosts[0]):
         # A page of another site may have its name stand for this machine.
         status, body = "403 Forbidden", b"this port is for programs of this machine: 127.0.0.1 or localhost\n"
     elif method != b"GET":
         status, body = "405 Method Not Allowed", b"GET /healthz, /readyz or /metrics\n"
+    else:
+        status, body = await _page(path.partition(b" ")[0], health, metrics)
     return (f"HTTP/1.1 {status}\r\nContent-Type: text/plain; version=0.0.4; charset=utf-8\r\nContent-Length: {len(body)}\r\n"
             "Connection: close\r\n\r\n").encode() + body
 
