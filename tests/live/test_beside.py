@@ -194,7 +194,7 @@ def rows(count, row):
 def without_a_line_end(folder, stack):
     gateway = shop(folder, stack)
     yield gateway.unix
-    clients = [stack.enter_context(gateway.connect()) for _ in range(16)]
+    clients = [stack.enter_context(gateway.connect()) for _ in range(60)]
     again_and_again(stack, lambda: [client.send(b"1 " * 50_000) for client in clients])
 
 
