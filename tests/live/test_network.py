@@ -146,7 +146,7 @@ def test_a_master_is_cut_off_for_good():
 
 @pytest.mark.limit(120)
 def test_a_network_in_two_halves():
-    """A master, a worker and the tills are on the smaller one: what the master takes meanwhile is lost when the halves meet."""
+    """A master and the tills are on the smaller one, and a worker at times: what the master takes meanwhile is lost when the halves meet."""
     asked, wanted = rows_of(8_000)
     with Network(*REPLICATED) as network, Spread(network, replicas=True) as cluster, Far(network, ",".join(cluster.addresses), 2):
         done, halves = threading.Event(), 0
