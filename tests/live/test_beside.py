@@ -29,7 +29,7 @@ from test_limits import EAN, HANDSHAKE
 from test_logs import Blocked, small_pipe
 from test_rights import Authority
 
-LIMIT = 290
+LIMIT = 450
 SECONDS = 4.0
 MOST = 0.1
 NUMBERS = itertools.count()

@@ -18,7 +18,7 @@ from test_page import MESSAGE, READY, SHOWN, page  # noqa: F401 (page is a fixtu
 sys.path.insert(0, str(ROOT / "tests/page"))
 from browser import Browser  # noqa: E402
 
-LIMIT = 300
+LIMIT = 450
 EAN = b"]E09501101530003"
 NEXT = r"(\d+|-) (\d+\.\d{3}) next ([0-9a-f]{8}|-)\n"
 
