@@ -93,6 +93,7 @@ WIDTHS(row) WIDTHS(row_elements) WIDTHS(find)
 DOTS(dots) DOTS(dots_elements) DOTS(find_dots)
 TEXT(date) TEXT(scan) TEXT(text) TEXT(text_elements)
 DIGITS(gtin) DIGITS(digit) DIGITS(title)
+LINE(format, (const struct gs1_answer *answer, uint32_t form, uint8_t *out, size_t room), answer, sizeof *answer, at, form)
 LINE(symbol, (uint32_t kind, const uint8_t *text, size_t length, uint16_t year, uint8_t *out, size_t room), text, length, kind, at, length, year)
 LINE(label, (uint32_t kind, const uint8_t *text, size_t length, uint16_t year, uint16_t module_dots, uint16_t width, uint16_t height, uint8_t *out, size_t room),
      text, length, kind, at, length, year, module_dots, width, height)
@@ -148,6 +149,6 @@ _Bool gs1_c_next(const uint8_t *line, size_t length, struct gs1_c_place *found) 
 
 #define READ_TEXT(name) ANSWER(name, (const uint8_t *text, size_t length, uint16_t year, struct gs1_answer *answer), text, length, at, length, year)
 
-READ_TEXT(read_message) READ_TEXT(read_elements) READ_TEXT(read_gtin)
+READ_TEXT(read_message) READ_TEXT(read_elements) READ_TEXT(read_gtin) READ_TEXT(read_data)
 ANSWER(read_row, (const uint16_t *widths, size_t count, uint16_t year, struct gs1_answer *answer), widths, (u64)count * 2, at, count, year)
 ANSWER(read_dots, (const uint8_t *bits, size_t bytes, uint32_t count, uint16_t year, struct gs1_answer *answer), bits, bytes, at, bytes, count, year)
