@@ -19,9 +19,6 @@ except ImportError as fault:
     raise ImportError("Redis needs hiredis: apt-get install python3-hiredis") from fault
 
 Word = Union[str, int]
-Slots = Dict[int, str]
-"""The address of the node that has a slot."""
-
 REPLY = 8 << 20
 """Replies with more bytes are refused; those to commands that are sent together count together."""
 _CONNECT, _ANSWER, _SAME = 5.0, 2.5, 10.0
@@ -30,11 +27,6 @@ _CONNECT, _ANSWER, _SAME = 5.0, 2.5, 10.0
 
 class Fault(Exception):
     """An error that a node sends in place of a reply, such as ``NOPERM ..``."""
-
-    @property
-    def kind(self) -> str:
-        """Its first word."""
-        return str(self).partition(" ")[0]
 
 
 class TooMuch(Exception):
@@ -98,9 +90,11 @@ class Redis:
         self._login = [] if password is None else ["AUTH", *([user] if user else []), password]
         self._free: DefaultDict[str, List[_Connection]] = defaultdict(list)
         """The connections to each node that no call has."""
-        self._slots: Slots = {}
+        self._slots: Dict[int, str] = {}
+        """The address of the node that has a slot."""
         self._asking: Optional[asyncio.Future[None]] = None
-        self._fault: Exception = OSError("no node has this lane")
+        self._asked: Dict[str, asyncio.Future[Any]] = {}
+        self._fault: BaseException = OSError("no node has this lane")
         self._told: Dict[str, float] = {}
 
     async def ask(self, key: str, *words: Word) -> Any:
@@ -120,7 +114,7 @@ class Redis:
         """The address of the node that has a key, by the tag in its braces."""
         slot = binascii.crc_hqx(key.partition("{")[2].partition("}")[0].encode(), 0) % 16_384
         if slot not in self._slots:
-            await asyncio.shield(self._renew())
+            await asyncio.shield(self.renew())
         if slot not in self._slots:
             raise self._fault
         return self._slots[slot]
@@ -145,29 +139,30 @@ class Redis:
     async def rest(self, fault: Exception) -> None:
         """After an error: asks for a newer map of the nodes, without waiting for it, and rests a little."""
         self.tell(str(fault))
-        self._renew()
+        self.renew()
         await asyncio.sleep(random.uniform(0.05, 0.15))
 
-    def _renew(self) -> asyncio.Future[None]:
+    def renew(self) -> asyncio.Future[None]:
         """Asks for the map, one time for all callers."""
         if self._asking is None or self._asking.done():
             self._asking = asyncio.ensure_future(self._ask())
         return self._asking
 
     async def _ask(self) -> None:
-        """Asks all addresses at once for the map; the first answer counts. If there is none, the old map stays."""
-        asked = [asyncio.ensure_future(self._map_of(address)) for address in self._addresses.union(self._slots.values())]
-        for one in asyncio.as_completed(asked):
-            try:
-                self._slots = await one
+        """Asks all addresses at once for the map; the first answer counts. If there is none, the old map stays. One that is
+        still asked is not asked again: a handshake of TLS that is cancelled begins anew."""
+        addresses = self._addresses.union(() if self._master else self._slots.values())
+        for address in addresses:
+            if address not in self._asked or self._asked[address].done():
+                self._asked[address] = asyncio.gather(self._map_of(address), return_exceptions=True)
+        for one in asyncio.as_completed([self._asked[address] for address in addresses]):
+            told, = await one
+            if isinstance(told, dict):
+                self._slots = told
                 break
-            except FAULTS as fault:
-                self._fault = fault
-        for late in asked:
-            late.cancel()
-        await asyncio.gather(*asked, return_exceptions=True)
+            self._fault = told
 
-    async def _map_of(self, address: str) -> Slots:
+    async def _map_of(self, address: str) -> Dict[int, str]:
         """The map as one address tells it. A node of a cluster may not know its own host."""
         if self._master is not None:
             master = whole((await self._ask_at(address, [["SENTINEL", "GET-MASTER-ADDR-BY-NAME", self._master]]))[0])

@@ -131,16 +131,18 @@ class _Shard:
                 self._count = 1
             except FAULTS as fault:
                 looked = 0.0
-                self._is_full |= isinstance(fault, Fault) and fault.kind == "OOM"
+                self._is_full |= str(fault).startswith("OOM")
                 await self._shop.rest(fault)
 
     async def _look(self) -> List[str]:
         """Finds the lanes that it may answer, empties streams that have too many bytes, and claims the rows that nobody
         has answered for a while. At first, and if the node's clock has stepped back, it claims all, since their times
         may be in the future."""
-        # The first reply is an error if the shard has moved to another node.
-        _, (told, _) = map(whole, await self._shop.ask_all(tag(self._shard), [["XLEN", tag(self._shard)], ["TIME"]]))
-        now, lanes = int(told), await lanes_at(self._shop, self._shard)
+        now = int((await self._shop.ask(tag(self._shard), "TIME"))[0])
+        lanes = await lanes_at(self._shop, self._shard)
+        if not lanes:
+            # The shard may have moved to another node.
+            self._shop.renew()
         idle = 0 if self._clock is None or now < self._clock - 1 else IDLE
         commands: List[List[Word]] = []
         for lane in lanes:
@@ -237,7 +239,7 @@ class _Shard:
         self._of.given += count
         # 2 kB take as long as a row, and so do 16 fields.
         weight = count + sum(sum(map(len, of.values())) // 2048 + len(of) // 16 for _, _, of in entries)
-        self._count = max(1, min(64, 2 * self._count, BATCH * len(entries) // weight))
+        self._count = max(1, min(BATCH, 2 * self._count, BATCH * len(entries) // weight))
 
 
 class Till:
@@ -294,7 +296,7 @@ class Till:
                 await self._submit()
                 await self._read("BLOCK", 500)
             except FAULTS as fault:
-                if isinstance(fault, Fault) and fault.kind in _FINAL:
+                if str(fault).startswith(_FINAL):
                     raise
                 self._looked = 0.0
                 await self.shop.rest(fault)

@@ -388,7 +388,7 @@ async def behind(record):
                     nodes[old] = await asyncio.to_thread(start, old, "--replicaof", "127.0.0.1", str(new))
                     while not await asyncio.to_thread(follows, old):
                         await asyncio.sleep(0.1)
-                longest = record.longest()
+                longest = max(longest, record.longest())
 
             await record.at_work([record.till(shop, lane) for lane in lanes(20)], harm())
             await shop.close()
@@ -427,7 +427,7 @@ async def sentinels(record, tls=False):
                 master = int(place.ask(watching[0], "SENTINEL", "GET-MASTER-ADDR-BY-NAME", "lanes").split()[1])
                 nodes[master].kill()
                 nodes[master].wait()
-                await asyncio.sleep(8)
+                await asyncio.sleep(16)
                 longest.append(record.longest())
                 nodes[master] = await asyncio.to_thread(place.node, master, *users)
                 await asyncio.sleep(6)
@@ -635,8 +635,12 @@ async def full(record):
         async def harm():
             for name in ("one", "two"):
                 place.worker(name, REDIS_PASSWORD="secret")
-            while not record.has_enough:
-                await asyncio.sleep(0.5)
+            end = time.monotonic() + 10
+            while not record.has_enough or time.monotonic() < end:
+                lane = record.random.choice(many)
+                with contextlib.suppress(Fault):
+                    await shops[lane].ask(rows(lane), "XADD", rows(lane), "*", "t", "x" * record.random.choice([1_000_000, 100_000, 10_000]))
+                await asyncio.sleep(0.005)
 
         await record.at_work([record.till(shops[lane], lane) for lane in lanes(4)], harm())
         for shop in shops.values():
@@ -645,17 +649,23 @@ async def full(record):
 
 
 async def slow(record, names=("one", "two", "three")):
-    """A row takes a worker 2 ms, and tills submit all they may. Returns how many rows were worked for each answer."""
+    """A row takes a worker 2 ms, one after the other, and tills submit all they may. Returns how many rows were worked for each answer."""
     with Place() as place:
         port, = free_ports(1)
         place.node(port)
         shop = place.at(port)
 
-        async def answer(texts):
-            await asyncio.sleep(0.002 * len(texts))
-            return [record.pool.answers[text] for text in texts]
+        def worker(name):
+            one = asyncio.Lock()
 
-        workers = [Worker(place.at(port), name, answer) for name in names]
+            async def answer(texts):
+                async with one:
+                    await asyncio.sleep(0.002 * len(texts))
+                return [record.pool.answers[text] for text in texts]
+
+            return Worker(place.at(port), name, answer)
+
+        workers = [worker(name) for name in names]
         record.pool.odd = ["100"]
 
         async def harm():

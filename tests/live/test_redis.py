@@ -255,6 +255,23 @@ def test_rows_that_vanish_unseen():
         asyncio.run(test(cluster.address))
 
 
+@pytest.mark.limit(40)
+def test_a_clock_that_is_behind():
+    """A node whose clock is two minutes behind takes over, so its answers have lower IDs than those that the till has read."""
+    with Cluster(nodes=1) as cluster, Workers(cluster.address, 1):
+        async def test():
+            shop = Shop(cluster.address)
+            till = Till(shop, "3")
+            assert await till.read(EAN13) == READ
+            await shop.ask(keys.answers("3"), "XADD", keys.answers("3"), f"{int(time.time() + 120)}000-0", "x", "")
+            assert await till.read(EAN13) == READ
+            await shop.ask(keys.answers("3"), "DEL", keys.answers("3"))
+            assert await till.read(EAN13) == READ and till.lost == till.repeated == 0
+            await shop.close()
+
+        asyncio.run(test())
+
+
 def test_two_tills_on_a_lane():
     """Each gets the answers to its own rows."""
     with Cluster(nodes=1) as cluster, Workers(cluster.address, 1):

@@ -22,9 +22,9 @@ def run(scenario, answers):
     return told, record
 
 
-def most(seconds):
-    """A bound of time on this machine now."""
-    return seconds * max(1, os.getloadavg()[0] / os.cpu_count())
+def most(seconds, busy):
+    """A bound of time on this machine now; the second one if it is very busy."""
+    return min(busy, seconds * max(1, os.getloadavg()[0] / os.cpu_count()))
 
 
 @pytest.mark.limit(120)
@@ -37,29 +37,29 @@ def test_workers_are_killed_and_sleep(scenario):
 
 @pytest.mark.limit(120)
 def test_takeover():
-    told, record = run("takeover", 100_000)
-    assert max(told[signal.SIGKILL]) < most(4) and max(told[signal.SIGTERM]) < most(1.5)
+    told, record = run("takeover", 20_000)
+    assert max(told[signal.SIGKILL]) < most(4, 9) and max(told[signal.SIGTERM]) < most(1.5, 4)
     assert (record.lost, record.repeated) == (0, 0)
 
 
 @pytest.mark.limit(120)
 def test_a_replica_that_is_behind():
     longest, record = run("behind", 100_000)
-    assert record.lost and longest < most(5)
+    assert record.lost and longest < most(5, 9)
 
 
 @pytest.mark.limit(120)
 @pytest.mark.parametrize("scenario", ["sentinels", "sentinels_over_tls"])
 def test_sentinels(scenario):
     told, _ = run(scenario, 1_000)
-    assert max(told) < most(5)
+    assert max(told) < most(5, 14)
 
 
 @pytest.mark.limit(120)
 @pytest.mark.parametrize("scenario", ["hung", "hung_over_tls"])
 def test_a_node_hangs(scenario):
     (_, alone, with_kill), _ = run(scenario, 1_000)
-    assert max(alone) < most(0.5) and max(with_kill) < most(4)
+    assert max(alone) < most(0.5, 2) and max(with_kill) < most(4, 9)
 
 
 @pytest.mark.limit(120)
@@ -73,18 +73,18 @@ def test_somebody_deletes_keys():
     assert record.lost
 
 
-@pytest.mark.limit(180)
+@pytest.mark.limit(240)
 def test_an_evil_till():
     told, record = run("evil", 1_000)
     del told["before"]
     assert told.pop("worker MB") < 100 and record.lost == 0
-    assert max(silence for _, silence in told.values()) < most(1)
+    assert max(silence for _, silence in told.values()) < most(1, 3)
 
 
 @pytest.mark.limit(120)
 def test_many_lanes_fill_the_memory():
     longest, _ = run("full", 20_000)
-    assert longest < most(5)
+    assert longest < most(5, 9)
 
 
 @pytest.mark.limit(120)
@@ -97,4 +97,4 @@ def test_too_much_work_is_not_done_twice(scenario):
 @pytest.mark.limit(120)
 def test_a_thousand_lanes():
     (median, longest, new, alone, rest), _ = run("thousand", 15_000)
-    assert median < most(1) and longest < most(2) and new < most(2) and alone < most(0.01) and max(rest) < 0.3
+    assert median < most(1, 3) and longest < most(2, 6) and new < most(2, 6) and alone < most(0.01, 0.1) and max(rest) < 0.3

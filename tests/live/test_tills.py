@@ -85,7 +85,7 @@ def test_a_lane_that_has_too_many_rows():
             while await shop.ask(ROWS, "XLEN", ROWS):
                 assert time.monotonic() < until
                 await asyncio.sleep(0.1)
-            workers.end()
+            assert f"{ROWS} is emptied" in workers.kill("worker0")
     with_node(test)
 
 
