@@ -128,7 +128,7 @@ function roundedPrice({ whole, point, fraction }, decimals) {
  * @returns {Written | undefined}
  */
 function writtenPrice(cell) {
-  const found = cell.match(WRITTEN_PRICE)?.groups;
+  const found = /[0-9]/.test(cell) ? cell.match(WRITTEN_PRICE)?.groups : undefined;
   if (!found || found.front && found.back) return undefined;
   const { front = "", whole = "", group = "", point = "", fraction = "", dash = "", back = "", each = "" } = found;
   return { before: front, whole, group, point, fraction, dash, after: back + each,

@@ -239,6 +239,7 @@ class Look {
    */
   isOtherHeading(record) {
     if (!this.hasHeading) return false;
+    if (record.cells.filter(trimmed).length < 2) return false;
     const own = this.first.cells.map(plainHeading), other = record.cells.map(plainHeading);
     const shared = new Set(own.filter((word) => word && other.includes(word)));
     return shared.size > 1 && own.some((word, place) => place < other.length && word !== other[place]);

@@ -89,11 +89,24 @@ function priceHeading(heading) {
     isSure: !text.replace(SURE_WORDS, "").trim() };
 }
 
+// What reasonOf has said of texts, since lists repeat them, up to this many.
+/** @type {Map<string, string>} */
+const REASONS_SAID = new Map();
+const MOST_SAID = 4096;
+
 /**
  * Why the prices that a text speaks of are not those of the shelf; nothing if it does not say, or speaks of a total.
  * @param {string} text
  */
 function reasonOf(text) {
+  const said = REASONS_SAID.get(text) ?? reasonFound(text);
+  if (REASONS_SAID.size >= MOST_SAID) REASONS_SAID.clear();
+  REASONS_SAID.set(text, said);
+  return said;
+}
+
+/** @param {string} text */
+function reasonFound(text) {
   const words = folded(Array.from(text).slice(0, MOST_REMARK).join("")).replace(PRICE_WORDS.ignored, "");
   const { tax } = taxOf(words), isAbout = tax === "net" || has(PRICE_WORDS.price, words);
   return isAbout && !has(PRICE_WORDS.total, words) ? firstReason(words, tax) : "";
@@ -130,9 +143,10 @@ function shelfPrices(headings) {
   const most = Math.max(...known.map(pointsOf)), first = known.filter((it) => pointsOf(it) === most);
   const plain = first.filter(({ heading }) => !heading.marks.length), best = plain.length ? plain : first;
   if (best.length !== 1) return places;
-  const [{ place, heading: { marks, isSure } }] = best;
-  const doubts = isSure ? []
-    : headings.filter(({ heading }) => DOUBTFUL.includes(heading.reason)).map((it) => it.place);
+  const [{ place, heading: { marks, isSure, points } }] = best;
+  // Beside a price that somebody recommends one of unclear meaning may be the shop's own.
+  const doubtful = !isSure ? DOUBTFUL : points < 0 ? ["unclear"] : [];
+  const doubts = headings.filter(({ heading }) => doubtful.includes(heading.reason)).map((it) => it.place);
   const others = known.filter((it) => it.place !== place && marks.length
     && it.heading.marks.some((mark) => !marks.includes(mark)));
   return others.length || doubts.length ? [...places, ...doubts].sort((a, b) => a - b) : [place];

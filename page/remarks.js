@@ -11,6 +11,7 @@
 
 const REMARKS = { units: anyOf(PRICES.remarks.units), sizes: anyOf(PRICES.remarks.sizes),
   measures: anyOf(PRICES.remarks.measures), currencies: anyOf(PRICES.remarks.currencies) };
+const NETS = new Set(PRICES.remarks.nets), NETS_OR_NO = new Set([...NETS, ...PRICES.remarks.no]);
 
 /**
  * The first remark on the prices of a column: in the titles, in the lines without an article, or in the columns that are
@@ -23,27 +24,35 @@ const REMARKS = { units: anyOf(PRICES.remarks.units), sizes: anyOf(PRICES.remark
  */
 function remarkOn(price, headings, { titles, passed, records }, unused) {
   const between = passed.filter(({ cells }) => !cells.some((cell) => writtenPrice(trimmed(cell))?.point));
-  return remarksInLines(price, headings, [...titles, ...between])[0]
-    ?? unused.flatMap((place) => remarksInColumn(place, headings[place] ?? "", records))[0];
+  for (const record of [...titles, ...between]) {
+    const [remark] = remarksInLine(price, headings, record);
+    if (remark) return remark;
+  }
+  for (const place of unused) {
+    const [remark] = remarksInColumn(place, headings[place] ?? "", records);
+    if (remark) return remark;
+  }
+  return undefined;
 }
 
 /**
- * What lines without an article say. A cell in the column of the price goes on with its heading.
+ * What a line without an article says. A cell in the column of the price goes on with its heading.
  * @param {number} price
  * @param {string[]} headings
- * @param {ListRecord[]} records
+ * @param {ListRecord} record
  * @returns {Remark[]}
  */
-function remarksInLines(price, headings, records) {
+function remarksInLine(price, headings, record) {
   const isOther = (/** @type {string} */ text) => PRICES.remarks.reasons.includes(reasonOf(text));
-  return records.map(({ line, cells }) => ({ line, cells: cells.map(oneBlank) }))
-    .filter(({ cells }) => cells.length !== headings.length || cells.some((cell, place) => cell !== headings[place]))
-    .flatMap(({ line, cells }) => cells.filter((cell, place) => cell
-      && (isOther(cell) || place === price && isOther(`${headings[price]} ${cell}`))).map((cell) => ({ line, cell })));
+  const { line } = record, cells = record.cells.map(oneBlank);
+  if (cells.length === headings.length && cells.every((cell, place) => cell === headings[place])) return [];
+  return cells.filter((cell, place) => cell && (isOther(cell) || place === price && isOther(`${headings[price]} ${cell}`)))
+    .map((cell) => ({ line, cell }));
 }
 
 /**
- * What a column says of the price beside it: of how much it is the price, or in which of several currencies.
+ * What a column says of the price beside it: of how much it is the price, in which of several currencies, or that it is
+ * without tax.
  * @param {number} place
  * @param {string} heading
  * @param {ListRecord[]} records
@@ -55,7 +64,9 @@ function remarksInColumn(place, heading, records) {
   const isSize = has(REMARKS.sizes, words), isCurrency = has(REMARKS.currencies, words);
   const found = has(REMARKS.units, words) ? filled.filter(({ cell }) => isOtherUnit(cell, isSize))
     : isCurrency ? filled.filter(({ cell }) => cell.toUpperCase() !== filled[0].cell.toUpperCase()) : [];
-  return found.map(({ line, cell }) => ({ line, cell: `${heading}: ${cell}` }));
+  const others = taxOf(words).isTaxed ? NETS_OR_NO : NETS;
+  return [...found, ...filled.filter(({ cell }) => others.has(cell.toLowerCase()))]
+    .map(({ line, cell }) => ({ line, cell: `${heading}: ${cell}` }));
 }
 
 /**

@@ -23,6 +23,8 @@ const isElements = (text) => text[0] in BRACKETED || /[\^\x1d]/.test(text);
 function looksRight(cell) {
   const text = stripped(cell);
   if (text && "([]^\x1d".includes(text[0])) return /^([([]\d\d|\]\w\d|[\^\x1d]\d\d)/.test(text);
+  // Most cells have no digit.
+  if (!/\p{Nd}|:\/\//u.test(text)) return false;
   const digits = digitsOf(text);
   return /^\p{Nd}{7,14}$/u.test(digits) || ROUNDED.test(digits) || LINK.test(text);
 }

@@ -24,6 +24,7 @@ _PRICE = re.compile(
     r"(?P<each>[ \xa0]?(?:/|(?:je|pro|per|par|por|al|za)[ \xa0])[ \xa0]?[^\W\d_][\w. ]{0,11})?",
     re.IGNORECASE)
 """A price: a number with or without decimals, a currency before or behind it, and what it is for."""
+_DIGIT = re.compile("[0-9]")
 
 
 class _Written(NamedTuple):
@@ -120,7 +121,7 @@ def price_like(cell: str) -> bool:
 
 def _written(cell: str) -> Optional[_Written]:
     """The parts of a cell that is written like a price."""
-    found = _PRICE.fullmatch(cell)
+    found = _DIGIT.search(cell) and _PRICE.fullmatch(cell)
     if not found or found["front"] and found["back"]:
         return None
     part: Dict[str, str] = {name: text or "" for name, text in found.groupdict().items()}

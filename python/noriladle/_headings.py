@@ -3,6 +3,7 @@ from __future__ import annotations
 
 import re
 import unicodedata
+from functools import lru_cache
 from typing import Dict, List, Sequence, Tuple
 
 from ._lists import Fault, Record
@@ -28,6 +29,7 @@ _MOST_WORDS = 4
 _FOLDED = str.maketrans({"ł": "l", "ø": "o", "ß": "ss"})
 
 
+@lru_cache(maxsize=4096)
 def plain(heading: str) -> str:
     """A heading in small letters, without accents, blanks and signs."""
     letters = unicodedata.normalize("NFKD", heading.casefold().translate(_FOLDED))
@@ -60,6 +62,7 @@ class Headings:
     def __init__(self, first: Record, has_heading: bool) -> None:
         self.line = first.line
         self.cells: Sequence[str] = [" ".join(cell.split()) for cell in first.cells] if has_heading else []
+        self._plain = [*map(plain, self.cells)]
 
     def of(self, place: int) -> str:
         """The heading of a column, or nothing."""
@@ -71,13 +74,13 @@ class Headings:
 
     def count(self, heading: str) -> int:
         """How many columns have this heading."""
-        return [*map(plain, self.cells)].count(plain(heading))
+        return self._plain.count(plain(heading))
 
     def is_another(self, record: Record) -> bool:
         """Whether a record is a heading, too, and another one: it has two words of this one, and not the same in all."""
-        own, other = ([plain(cell) for cell in cells] for cells in (self.cells, record.cells))
-        shared = {*own} & {*other} - {""}
-        return len(shared) > 1 and any(cell != other[place] for place, cell in enumerate(own) if place < len(other))
+        other = [cell and plain(cell) for cell in record.cells]
+        shared = {*self._plain} & {*other} - {""}
+        return len(shared) > 1 and any(cell != other[place] for place, cell in enumerate(self._plain) if place < len(other))
 
     def reasons(self) -> Dict[int, str]:
         """Why the prices of some columns are not those of the shelf."""

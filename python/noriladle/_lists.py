@@ -94,6 +94,6 @@ def _sheet(text: str, delimiter: str, first: int) -> Sheet:
             lost.append(Record(line, re.split(f"[{re.escape(delimiter)}\r\n\"]", text[at:source.tell()])))
             cells = []
         at = source.tell()
-        if any(cell.strip() for cell in cells):
+        if "".join(cells).strip():
             records.append(Record(line, cells))
         line = first + reader.line_num

@@ -74,9 +74,8 @@ def price_of(heading: str) -> Optional[PriceHeading]:
     text = _IGNORED.sub("", folded(heading[:_MOST + 1]))
     if len(heading) > _MOST or not _PRICE.search(text):
         return None
-    is_taxed, tax = _tax(text)
-    reason = _reason(text, tax)
-    points = bool(_OWN.search(text)) + bool(_GROSS.search(text)) + 2 * is_taxed
+    reason = _reason(text, _tax(text)[1])
+    points = bool(_OWN.search(text)) + bool(_GROSS.search(text)) + 2 * is_taxed(text)
     marks = frozenset(name for name, pattern in _MARKS.items() if pattern.search(text))
     is_sure = not _SURE.sub("", text).strip()
     return PriceHeading(reason, -1 if _RECOMMENDED.search(text) else points, marks, bool(_CENTS.search(text)), is_sure)
@@ -94,6 +93,11 @@ def reason_of(text: str) -> str:
 def _reason(text: str, tax: str) -> str:
     """The first reason that a folded text gives, or that its words of tax give."""
     return next((name for name, pattern in _REASONS.items() if name == tax or pattern.search(text)), "")
+
+
+def is_taxed(text: str) -> bool:
+    """Whether a folded heading says that the tax is included."""
+    return _tax(text)[0]
 
 
 def _tax(text: str) -> Tuple[bool, str]:
@@ -120,6 +124,8 @@ def shelf_prices(headings: Mapping[int, PriceHeading]) -> List[int]:
     if len(best) != 1:
         return [*known]
     chosen = known[best[0]]
-    doubts = [] if chosen.is_sure else [place for place, heading in headings.items() if heading.reason in _DOUBTFUL]
+    # Beside a price that somebody recommends one of unclear meaning may be the shop's own.
+    doubtful = _DOUBTFUL if not chosen.is_sure else ("unclear",) if chosen.points < 0 else ()
+    doubts = [place for place, heading in headings.items() if heading.reason in doubtful]
     has_others = bool(chosen.marks) and any(not heading.marks <= chosen.marks for heading in known.values())
     return sorted([*known, *doubts]) if has_others or doubts else best

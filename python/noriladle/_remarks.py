@@ -9,11 +9,12 @@ from typing import Any, Dict, Iterable, Iterator, NamedTuple, Optional, Sequence
 from ._amounts import price_like
 from ._headings import Headings
 from ._lists import Record
-from ._prices import any_of, folded, reason_of
+from ._prices import any_of, folded, is_taxed, reason_of
 from ._shop import file_of
 
 _TABLE: Dict[str, Any] = file_of("prices")["remarks"]
 _REASONS = frozenset(_TABLE["reasons"])
+_NETS, _NO = frozenset(_TABLE["nets"]), frozenset(_TABLE["no"])
 _UNITS, _SIZES, _MEASURES, _CURRENCIES = (any_of(_TABLE[name]) for name in ("units", "sizes", "measures", "currencies"))
 
 
@@ -46,8 +47,10 @@ def _in_lines(price: int, headings: Headings, records: Iterable[Record]) -> Iter
 
 
 def _in_column(place: int, heading: str, records: Iterable[Record]) -> Iterator[Remark]:
-    """What a column says of the price beside it: of how much it is the price, or in which of several currencies."""
+    """What a column says of the price beside it: of how much it is the price, in which of several currencies, or that it is
+    without tax."""
     words = folded(heading)
+    others = _NETS | _NO if is_taxed(words) else _NETS
     cells = [(record.line, " ".join(record.cells[place].split())) for record in records if place < len(record.cells)]
     filled = [(line, cell) for line, cell in cells if cell]
     if _UNITS.search(words):
@@ -55,6 +58,7 @@ def _in_column(place: int, heading: str, records: Iterable[Record]) -> Iterator[
         yield from (Remark(line, f"{heading}: {cell}") for line, cell in filled if _is_other(cell, is_size))
     elif _CURRENCIES.search(words):
         yield from (Remark(line, f"{heading}: {cell}") for line, cell in filled if cell.upper() != filled[0][1].upper())
+    yield from (Remark(line, f"{heading}: {cell}") for line, cell in filled if cell.lower() in others)
 
 
 @lru_cache(maxsize=1024)

@@ -12,6 +12,8 @@ _BRACKETED = {"(": re.compile(r"\((\d{2,4})\)([^()]+)"), "[": re.compile(r"\[(\d
 _BLANKS = re.compile(r"[\s\xa0\u2007\u202f]+")
 _PUNCTUATION = re.compile(r"[\s\xa0\u2007\u202f\u2010-\u2015-]+")
 _LINK = re.compile(r"https?://", re.IGNORECASE)
+_MAY_BE = re.compile(r"\d|://")
+"""What is in each number or link: most cells have none of it."""
 _OF_NUMBERS = (1, 2, 3)
 """The refusals of a number: its length, a sign that is no digit, its check digit."""
 _ROUNDED = re.compile(r"\d([.,]\d+)?E\+?\d+", re.IGNORECASE)
@@ -68,6 +70,8 @@ def looks_right(text: str) -> bool:
     text = stripped(text)
     if text[:1] in _BRACKETED or text[:1] in ("]", "^", "\x1d"):
         return bool(re.match(r"[(\[]\d\d|\]\w\d|[\^\x1d]\d\d", text))
+    if not _MAY_BE.search(text):
+        return False
     digits = digits_of(text)
     return bool(7 <= len(digits) <= 14 and digits.isdecimal() or _ROUNDED.fullmatch(digits) or _LINK.match(text))
 

@@ -42,6 +42,7 @@ def test_the_price_on_the_shelf(headings, price):
     ("Preis;UVP", "'Preis', 'UVP' may each be the price on the shelf: say which it is, as in --column price='Preis', or --no-price"),
     ("Preis EUR;Preis CHF", "'Preis EUR', 'Preis CHF' may each"), ("VK 1;VK 2", "'VK 1', 'VK 2' may each"),
     ("Preis AT;Preis DE", "'Preis AT', 'Preis DE' may each"), ("VK CHF;Preis EUR", "'VK CHF', 'Preis EUR' may each"),
+    ("List Price;Cost;Standard price", "'List Price', 'Standard price' may each"),
     ("SalePrice;EatOutPrice", "'SalePrice', 'EatOutPrice' may each"),
     ("Preis;Preis", "'Preis', 'Preis' may each be the price on the shelf: say which it is, as in --column price=2, or --no-price"),
     ("EK", "no column is headed as the price on the shelf, only 'EK' (purchase price): say which it is, or that the labels have none, "
@@ -125,6 +126,7 @@ def test_what_other_cells_and_words_say_of_a_price():
     assert printed("1,299", others=["2.90"]) == "1,299.00" and printed("3", others=["2.90"]) == "3.00"
     with pytest.raises(ValueError, match="may be 1299.00 or 1.29"):
         printed("1.299", others=[])
+    assert printed("1.299.000", others=[]) == "1.299.000,00" and printed("1'299'000", others=[]) == "1'299'000.00"
     assert printed("3", currency="¥") == "3" and printed("0", is_free=True) == "0,00"
     assert printed("290", others=[], heading="price_cents") == "2.90" and printed("5", others=[], heading="Preis (Cent)") == "0.05"
     with pytest.raises(ValueError, match="cents"):
@@ -144,6 +146,7 @@ def test_what_other_cells_and_words_say_of_a_price():
     (f"EAN;Artikel;Preis\n{OATS};Kekse;2,90\n{RYE};Brot;3\n{OATS};Kekse;2,50\n", {2: "line 4 has the same number", 4: "line 2 has the same"}),
     (f"EAN;Artikel;Preis\n{OATS};Kekse;2,90\n;{OATS};Kekse;2,90\n", {2: "line 3 has the same number", 3: "this line has no number"}),
     (f'EAN;Artikel;Preis\n{OATS};Kekse;2,90\n{OATS};"x"y;1,00\n', {2: "line 3 has the same number", 3: "this line is not CSV"}),
+    (f"EAN;Artikel;Preis\n{OATS};Kekse;2,90\n;Summe;;9,00\n", {3: "this line has no number"}),
     ("EAN;Artikel;Preis\n0000000000000;x;1,00\n", {2: "a number of zeros alone"}),
     (f"EAN;Artikel;Preis\n#N/V;x;1,00\n{OATS};y;1,00\n", {2: "refused 1 Length"}),
 ])
