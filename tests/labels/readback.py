@@ -8,6 +8,7 @@ import concurrent.futures
 import csv
 import html
 import io
+import itertools
 import json
 import os
 import re
@@ -26,6 +27,7 @@ from kinds import KINDS
 LISTS, WORK = sys.argv[1:]
 YEAR = "2026"
 POOL, READING = concurrent.futures.ThreadPoolExecutor(4), concurrent.futures.ThreadPoolExecutor(3)
+BATCH = 25
 FAULTS, COUNTS = [], {"labels": 0, "noriladle": 0, "zbarimg": 0, "ZXingReader": 0, "digits": 0, "of": 0}
 Image.MAX_IMAGE_PIXELS = None
 
@@ -97,26 +99,36 @@ def said(name, text):
 ZBAR = "{http://zbar.sourceforge.net/2008/barcode}"
 
 
-def zbarimg_says(path):
-    told = xml.etree.ElementTree.fromstring(run("zbarimg", "--quiet", "--nodbus", "--xml", path))
-    found = []
-    for symbol in told.iter(f"{ZBAR}symbol"):
-        data = symbol.find(f"{ZBAR}data")
-        # A separator is no character of XML.
-        text = base64.b64decode(data.text).decode("latin-1") if data.get("format") == "base64" else data.text
-        found.append(said(symbol.get("type"), text))
-    return found
+def zbarimg_says(paths):
+    told = xml.etree.ElementTree.fromstring(run("zbarimg", "--quiet", "--nodbus", "--xml", *paths))
+    found = {path: [] for path in paths}
+    for source in told.iter(f"{ZBAR}source"):
+        for symbol in source.iter(f"{ZBAR}symbol"):
+            data = symbol.find(f"{ZBAR}data")
+            # A separator is no character of XML.
+            text = base64.b64decode(data.text).decode("latin-1") if data.get("format") == "base64" else data.text
+            found[source.get("href")].append(said(symbol.get("type"), text))
+    return found.values()
 
 
-def zxing_says(path):
+def zxing_says(paths):
     # Debian's ZXingReader 1.4.0 ends by an assertion (Result.cpp:140) if it finds a symbol in the picture and in a smaller one.
-    told = run("ZXingReader", "-noscale", path).decode("latin-1")
-    names, data = (re.findall(rf"^{word}: +(.*?) *$", told, re.MULTILINE) for word in ("Format", "Bytes"))
-    return [said(name, bytes.fromhex(one).decode("latin-1")) for name, one in zip(names, data) if name != "None"]
+    told = run("ZXingReader", "-noscale", *paths).decode("latin-1")
+    # It names a file if there are several.
+    _, *parts = re.split(r"^File: +(.*)$", told if len(paths) > 1 else f"File: {paths[0]}\n{told}", flags=re.MULTILINE)
+    found = {path: [] for path in paths}
+    for path, part in zip(parts[::2], parts[1::2]):
+        names, data = (re.findall(rf"^{word}: +(.*?) *$", part, re.MULTILINE) for word in ("Format", "Bytes"))
+        found[path] += [said(name, bytes.fromhex(one).decode("latin-1")) for name, one in zip(names, data) if name != "None"]
+    return found.values()
 
 
-READERS = {"noriladle": by_noriladle, "zbarimg": lambda paths: POOL.map(zbarimg_says, paths),
-           "ZXingReader": lambda paths: POOL.map(zxing_says, paths)}
+def in_batches(reader):
+    """A reader of many pictures: each call takes some of them, since a start costs more than a picture."""
+    return lambda paths: itertools.chain(*POOL.map(reader, (paths[at:at + BATCH] for at in range(0, len(paths), BATCH))))
+
+
+READERS = {"noriladle": by_noriladle, "zbarimg": in_batches(zbarimg_says), "ZXingReader": in_batches(zxing_says)}
 
 
 def read_all(title, pictures, labels):
@@ -178,7 +190,8 @@ def try_sheet(name, stock, dpi, start):
     pages = pages_by("gs", "-q", "-dNOPAUSE", "-dBATCH", "-sDEVICE=pngmono", f"-r{dpi}", f"-sOutputFile={PAGES}/%03d.png", PDF)
     read_all(f"{title}: PDF by Ghostscript, black and white", cuts(pages, stock, len(labels), start, dpi), labels)
     svgs = files_of("svg", *words)
-    pages = [Image.open(io.BytesIO(run("rsvg-convert", "-d", str(dpi), "-p", str(dpi), it))).convert("L") for it in svgs]
+    pages = [Image.open(io.BytesIO(it)).convert("L") for it in
+             POOL.map(lambda svg: run("rsvg-convert", "-d", str(dpi), "-p", str(dpi), svg), svgs)]
     read_all(f"{title}: SVG by rsvg-convert", cuts(pages, stock, len(labels), start, dpi), labels)
     pages = [Image.open(it) for it in files_of("png", *words)]
     read_all(f"{title}: PNG", cuts(pages, stock, len(labels), start, dpi), labels)
