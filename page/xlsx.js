@@ -113,7 +113,8 @@ function xlsxCells(row, line, sheet) {
     if (cell.localName !== "c") continue;
     const place = cell.getAttribute("r"), column = place ? columnAt(place) : cells.length;
     if (column < cells.length || column >= MOST_COLUMNS) throw damaged();
-    sheet.count.add(1);
+    // The empty cells before it count, too.
+    sheet.count.add(1 + column - cells.length);
     while (cells.length < column) cells.push("");
     cells.push(xlsxCell(cell, sheet));
     if (lacksValue(cell)) sheet.faults.push(faultAt(line, "sheetFormula", columnLetters(column)));

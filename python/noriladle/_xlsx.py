@@ -145,16 +145,17 @@ class _Rows(Handler):
             self._is_reading = False
         elif name == "c":
             self._end_of_cell()
-        elif name == "row":
+        elif name == "row" and self._cells:
             self.found.append((self._line, self._cells))
 
     def _end_of_cell(self) -> None:
         place = _place(self._cell["r"]) if "r" in self._cell else len(self._cells)
-        self._count += 1
-        if self._count > MOST_CELLS:
-            raise Faults([Fault(1, said("sheetLarge"))])
         if not len(self._cells) <= place < MOST_COLUMNS:
             raise ValueError("column")
+        # The empty cells before it count, too.
+        self._count += 1 + place - len(self._cells)
+        if self._count > MOST_CELLS:
+            raise Faults([Fault(1, said("sheetLarge"))])
         self._cells += [""] * (place - len(self._cells))
         text = "".join(self._parts)
         self._cells.append(self._shown(text))

@@ -187,6 +187,12 @@ def far_cell(data):
     )
 
 
+def far_cells(data):
+    """Twenty thousand lines whose only cell is in the last column."""
+    cell = b'<row r="%d"><c r="XFD%d" t="inlineStr"><is><t>far</t></is></c></row>'
+    return data.replace(b"</sheetData>", b"".join(cell % (line, line) for line in range(1_000, 21_000)) + b"</sheetData>")
+
+
 HARMFUL = {
     "bomb.xlsx": ("two-sheets.xlsx", SHEET, padded),
     "bomb.ods": ("two-sheets.ods", CONTENT, padded),
@@ -197,6 +203,7 @@ HARMFUL = {
     "rows.ods": ("two-sheets.ods", CONTENT, many_rows),
     "columns.ods": ("two-sheets.ods", CONTENT, many_columns),
     "far.xlsx": ("two-sheets.xlsx", SHEET, far_cell),
+    "gaps.xlsx": ("two-sheets.xlsx", SHEET, far_cells),
     "no-sheet.xlsx": ("two-sheets.xlsx", SHEET, lambda data: None),
     "no-content.ods": ("two-sheets.ods", CONTENT, lambda data: None),
     "half-a-sheet.xlsx": ("two-sheets.xlsx", SHEET, lambda data: data[: len(data) // 2]),

@@ -1,11 +1,14 @@
-"""Makes edits of the page's scripts, such as a tired programmer makes. tests/page/same_lists.py must notice each.
+"""Makes edits of the page's scripts, such as a tired programmer makes. One of the lists of same_lists.py must show each.
 
 Usage: edits.py WORK. Its last line is the counts.
 """
+import json
 import os
 import shutil
 import subprocess
 import sys
+
+import same_lists
 
 HERE = os.path.dirname(os.path.abspath(__file__))
 PAGE = os.path.join(os.path.dirname(os.path.dirname(HERE)), "page")
@@ -68,7 +71,23 @@ EDITS = [
 ]
 
 
+def is_noticed(page, lists, answers):
+    """Whether these scripts of the page answer a list in another way than the command. It ends with the first one."""
+    with open(lists, "rb") as asked, subprocess.Popen(["node", f"{HERE}/lists_in_node.js"], env={**os.environ, "PAGE": page}, stdin=asked,
+                                                      stdout=subprocess.PIPE, stderr=subprocess.DEVNULL) as node:
+        try:
+            return not all(line and json.loads(line) == answer for line, answer in ((node.stdout.readline(), it) for it in answers))
+        finally:
+            node.kill()
+
+
 def main():
+    made = [*same_lists.of_shops(), *same_lists.made(LISTS)]
+    lists, answers = os.path.join(WORK, "lists"), [same_lists.by_python(data) for data in made]
+    with open(lists, "wb") as file:
+        file.write(same_lists.lines_of(made))
+    if is_noticed(PAGE, lists, answers):
+        sys.exit("the page without an edit differs from the command")
     missed = 0
     for number, (name, old, new) in enumerate(EDITS):
         folder = os.path.join(WORK, f"edit-{number}")
@@ -80,8 +99,7 @@ def main():
             sys.exit(f"{name} has {old!r} {text.count(old)} times")
         with open(path, "w", encoding="utf-8") as file:
             file.write(text.replace(old, new))
-        done = subprocess.run([sys.executable, f"{HERE}/same_lists.py", str(LISTS)], env={**os.environ, "PAGE": folder, "ANSWERS": os.path.join(WORK, "answers.json")}, stdout=subprocess.DEVNULL, stderr=subprocess.DEVNULL)
-        if done.returncode == 0:
+        if not is_noticed(folder, lists, answers):
             missed += 1
             print(f"missed: {name}: {old!r} as {new!r}", flush=True)
         shutil.rmtree(folder)

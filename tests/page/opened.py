@@ -127,13 +127,19 @@ def repeated(element, times):
     return change
 
 
+def far_cells(data):
+    """Twenty thousand lines whose only cell is in the last column."""
+    cell = b'<row r="%d"><c r="XFD%d" t="inlineStr"><is><t>far</t></is></c></row>'
+    return data.replace(b"</sheetData>", b"".join(cell % (line, line) for line in range(1_000, 21_000)) + b"</sheetData>")
+
+
 def harmful():
     """Archives that are made to harm, with what the page says of each."""
     xlsx, ods, sheet = f"{SAVED}/two-sheets.xlsx", f"{SAVED}/two-sheets.ods", "xl/worksheets/sheet1.xml"
     padded = lambda data: data[:data.index(b"?>") + 2] + b" " * 300_000_000 + data[data.index(b"?>") + 2:]
     return {
         "bomb.xlsx": (changed(xlsx, sheet, padded), "sheetLarge"), "bomb.ods": (changed(ods, "content.xml", padded), "sheetLarge"),
-        "doctype.xlsx": (changed(xlsx, "xl/sharedStrings.xml", with_doctype), "sheetDamaged"),
+        "gaps.xlsx": (changed(xlsx, sheet, far_cells), "sheetLarge"), "doctype.xlsx": (changed(xlsx, "xl/sharedStrings.xml", with_doctype), "sheetDamaged"),
         "doctype.ods": (changed(ods, "content.xml", with_doctype), "sheetDamaged"),
         "rows.ods": (changed(ods, "content.xml", repeated(b"row", 1_000_000)), "sheetLarge"),
         "columns.ods": (changed(ods, "content.xml", repeated(b"cell", 16_384)), "sheetDamaged"),

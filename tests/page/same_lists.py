@@ -101,26 +101,17 @@ def plainly(said):
     return re.sub(r", as in --(column|no-price|encoding) ?.*|: noriladle read takes it$| \(--free\)$", "", said, flags=re.DOTALL)
 
 
-def answers_of(lists):
-    """The command's answers. They are kept in the file that ANSWERS names, if it does."""
-    path = os.environ.get("ANSWERS", "")
-    if os.path.exists(path):
-        with open(path, encoding="utf-8") as file:
-            return json.load(file)
-    answers = [by_python(data) for data in lists]
-    if path:
-        with open(path, "w", encoding="utf-8") as file:
-            json.dump(answers, file)
-    return answers
+def lines_of(lists):
+    """The lists as lists_in_node.js takes them."""
+    return b"".join(base64.b64encode(it) + b"\n" for it in lists)
 
 
 def main():
     shops, lists = list(of_shops()), list(made(int(sys.argv[1])))
     lists = shops + lists
-    asked = "".join(base64.b64encode(it).decode() + "\n" for it in lists)
-    told = subprocess.run(["node", f"{ROOT}/tests/page/lists_in_node.js"], input=asked.encode(), stdout=subprocess.PIPE, check=True).stdout.decode().split("\n")[:-1]
+    told = subprocess.run(["node", f"{ROOT}/tests/page/lists_in_node.js"], input=lines_of(lists), stdout=subprocess.PIPE, check=True).stdout.decode().split("\n")[:-1]
     differ = good = faulty = 0
-    for data, line, wanted in zip(lists, told, answers_of(lists)):
+    for data, line, wanted in zip(lists, told, map(by_python, lists)):
         page = json.loads(line)
         good, faulty = good + len(wanted["articles"]), faulty + len(wanted["faults"])
         if page != wanted:
