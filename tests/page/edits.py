@@ -67,6 +67,8 @@ EDITS = [
     ("articles.js", "cells.length < shortest", "false"),
     ("articles.js", "if (isPoint && ", "if (false && "),
     ("articles.js", "new Set(alike.map(({ said }) => said)).size < 2", "true"),
+    ("prices.js", "points < 0 ? [\"unclear\"] : []", "[]"),
+    ("remarks.js", "taxOf(words).isTaxed ? NETS_OR_NO : NETS", "NETS"),
     ("articles.js", "for (const record of table.lost) noteDoubt(numbers, record);", ""),
 ]
 
