@@ -37,7 +37,7 @@ EDITS = [
     ("prices.js", "2 * Number(isTaxed)", "0"),
     ("prices.js", "has(PRICE_WORDS.without, text)", "false"),
     ("prices.js", "const least = headings.some(({ heading }) => heading.reason === \"purchase\") ? -1 : 0;", "const least = 0;"),
-    ("prices.js", "isSure ? []", "true ? []"),
+    ("prices.js", "!isSure ? DOUBTFUL", "false ? DOUBTFUL"),
     ("prices.js", "isAbout && !has(PRICE_WORDS.total, words)", "isAbout"),
     ("remarks.js", "[...titles, ...between]", "between"),
     ("remarks.js", "place === price && isOther(`${headings[price]} ${cell}`)", "false"),
