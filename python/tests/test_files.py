@@ -123,16 +123,17 @@ def test_cells_of_an_ods():
     def number(value, shown, kind="float"):
         return f'<table:table-cell office:value-type="{kind}" office:value="{value}"><text:p>{shown}</text:p></table:table-cell>'
     data = ods('<table:table-row table:number-rows-repeated="3"><table:table-cell table:number-columns-repeated="1024"/></table:table-row>'
-               f'<table:table-row>{number("4012345010008", "4.01E+12")}{number("2.9", "3 €", "currency")}{number("12345", "012345")}'
+               f'<table:table-row>{number("4012345010008", "4.01E+12")}{number("2.9", "3 €", "currency")}{number("12345000065", "012345000065")}'
                f'{number("2.9", "2,90 €", "currency")}{number("3.195", "3.20")}</table:table-row>'
                '<table:table-row table:visibility="filter"><table:table-cell table:number-columns-repeated="2"/><table:table-cell>'
                '<office:annotation><text:p>no</text:p></office:annotation><text:p>a<text:s text:c="2"/>b</text:p><text:p>c</text:p>'
                '</table:table-cell></table:table-row>')
-    assert rows_of(data) == ([(4, ["4012345010008", "2.9 €", "012345", "2,90 €", "3.195"]), (5, ["", "", "a  b\nc"])],
+    assert rows_of(data) == ([(4, ["4012345010008", "2.9 €", "012345000065", "2,90 €", "3.195"]), (5, ["", "", "a  b\nc"])],
                              ["hidden rows are printed, too: 5"], [])
 
 
 @pytest.mark.parametrize("data, said", [
+    (book("".join(f'<row r="{line}"><c r="XFD{line}"><v>1</v></c></row>' for line in range(1, 200))), "too large"),
     (b"PK\x03\x04 no archive", "damaged"), (book("<row"), "damaged"), (book('<row><c r="ZZZZ1"><v>1</v></c></row>'), "damaged"),
     (book('<row><c t="s"><v>7</v></c></row>'), "damaged"), (ods("", **{"content.xml": "<!DOCTYPE d><d/>"}), "damaged"),
     (book("").replace(b"xl/workbook.xml", b"xl/nothing.xmlx"[:15]), "compressed file"),
