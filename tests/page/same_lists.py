@@ -6,6 +6,7 @@ damages, asks both, and prints what differs. Its last line is the counts.
 import base64
 import csv
 import glob
+import io
 import json
 import os
 import random
@@ -29,7 +30,8 @@ NUMBERS = ["4012345010008", "4012345010374", "96385074", "012345000065", "095011
            "^10AB^17261231", "10AB\x1d17261231", "]C110AB^17261231", "]E04012345010008", "]E001234565", "]E04012345010375", "]E3abc",
            "https://id.gs1.org/01/09501101530003", "https://example.com/x", "]Q1https://id.gs1.org/01/09501101530003"]
 NAMES = ["Haferkekse", "Rye bread", "Käse, jung", "Blütenhonig \"cremig\"", "EAN reader", "", "שלום", "🍎 Apfel", "x" * 400, "a\nb", "u\u0308ber"]
-PRICES = ["2,90", "2.90 €", "€ 1.10", "1,10 €/Stk", "", "12345,67", "CHF 3.50", "x", "1.299", "1.299,00", "2,9", "2", "-1,00", "0,00", "3.–", "2,905", "1'234.50", "02. Sep"]
+PRICES = ["2,90", "2.90 €", "€ 1.10", "1,10 €/Stk", "", "12345,67", "CHF 3.50", "x", "1.299", "1.299,00", "2,9", "2", "-1,00", "0,00", "3.–", "2,905", "1'234.50", "02. Sep",
+          "007", "1,00-"]
 HEADINGS = [["EAN", "GTIN", "Strichcode", "Code-barres", "Artikelnummer", "gs1", "EAN Karton", "Nummer", ""], ["Name", "Artikel", "Bezeichnung", "Libellé", "Towar", "x"],
             ["Preis", "price", "Prix TTC", "Cena brutto", "VK (EUR)", "EK", "UVP", "Preis in Cent", "Prix (JPY)", "Preis je kg", "Preis [Kiosk]"], ["copies", "Etiketten", "Anzahl"], ["kind", "Art", "Codeart"], ["Zeile 1", "line2", "Text"]]
 OTHERS = [["1", "3", "", "0", "1001", "-1", "²"], ["", "ean13", "EAN-8", "upce", "qr", "gs1128", "itf14"], ["1 kg = 4,79 €", "", "neu"]]
@@ -78,6 +80,11 @@ def of_shops():
         for row in csv.DictReader(file):
             text = row["list"].replace("|", "\n")
             yield from (text.encode(), text.encode("utf-16-be"), b"\xfe\xff" + text.encode("utf-16-be"))
+    with open(f"{LISTS}/mistakes.csv", encoding="utf-8", newline="") as file:
+        for row in csv.DictReader(file, delimiter=";"):
+            text = io.StringIO()
+            csv.writer(text, delimiter=";").writerows([["EAN", "Name", "Preis"], [row["cell"], "x", "2,49"]])
+            yield text.getvalue().encode()
     for number in range(1_000):
         yield damaged(92, number).saved()
 
