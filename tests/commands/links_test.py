@@ -4,7 +4,7 @@ no link."""
 import itertools
 import string
 
-from element_strings import PARTS, X, lengths, value
+from element_strings import PARTS, X, check_digit, lengths, value
 from program import CommandTest
 
 LIVE = "live --lanes 1 --workers 1 --year 2026"
@@ -119,6 +119,14 @@ class LinksTest(CommandTest):
             ("https://h/" + 10_000 * "/" + f"01/{GTIN}", ELEMENT),
             (f"https://h/01/{GTIN}" + 10_000 * "/10", KIND),
         ])
+
+    def test_each_length_of_a_gtin_in_the_path(self):
+        cases = []
+        for length in range(1, 16):
+            payload = "123456789012345"[: length - 1]
+            gtin = payload + check_digit(payload)
+            cases.append((f"https://h/01/{gtin}", f"(01){gtin:0>14}" if length in (8, 12, 13, 14) else "refused 6 ValueLength 0"))
+        self.are_answered(cases)
 
     def test_gtins_in_the_path(self):
         # Of 8, 12 and 13 digits they have zeros before them; of no other key and not in a query.

@@ -1,9 +1,10 @@
 """Texts of scanners that read symbols themselves, as records of `live`: each line of the grammar, each identifier, Digital Links, and
 where a text is cut or too long."""
 
+import itertools
 import string
 
-from element_strings import PARTS, is_predefined, lengths, value
+from element_strings import PARTS, check_digit, is_predefined, lengths, value
 from program import CommandTest, ran
 from symbols import OTHER_UPCE, UPCE
 
@@ -97,6 +98,15 @@ class MessagesTest(CommandTest):
         ])
         # Fewer than eight digits are the widths of a row.
         self.gives_lines(LIVE, [("0,1234567", "0 - refused 18 BadRuns"), ("0,40112", "0 0 refused 19 Blank")])
+
+    def test_each_first_digit_of_a_bare_gtin(self):
+        # Eight digits that begin with 0 may be a UPC-E too.
+        cases = []
+        for length, first in itertools.product((8, 12, 13, 14), range(10)):
+            payload = f"{first}234567890123"[: length - 1]
+            gtin = payload + check_digit(payload)
+            cases.append((gtin, "refused 40 Kind" if length == 8 and first == 0 else f"- (01){gtin:0>14}"))
+        self.are_answered(cases)
 
     def test_element_strings(self):
         for word, front in [(it, it) for it in STRINGS] + [("-", "^"), ("-", "\x1d")]:

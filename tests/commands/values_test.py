@@ -5,6 +5,7 @@ others change. The numbers of refusals are those of docs/FAULTS.md.
 """
 
 import csv
+import itertools
 import os
 
 from program import CommandTest, field
@@ -302,4 +303,48 @@ class ValuesTest(CommandTest):
             ("text,80131987654Ad4X4bL5ttr2310cK2", "refused 8 ValueCheckDigit 0"),
             ("text,8007DE89370400440532013000", "hri (8007)DE89370400440532013000"),
             ("text,8007DE88370400440532013000", "refused 8 ValueCheckDigit 0"),
+        ])
+
+    def are_answered(self, cases):
+        """That values of AIs are good, or that a character of them is refused."""
+        self.gives_lines("check --year 2026 --ais all", [
+            (f"text,{ai}{value}", f"hri ({ai}){value}" if is_good else "refused 7 ValueCharacter 0") for ai, value, is_good in cases
+        ])
+
+    def test_the_codes_of_a_list(self):
+        # Between these characters the codes that the format takes: all others of this length are refused.
+        self.are_answered([
+            (ai, front + code + back, code in codes)
+            for ai, front, back, codes in [
+                ("4321", "", "", "01"),
+                ("4322", "", "", "01"),
+                ("4323", "", "", "01"),
+                ("7241", "", "", [f"{it:02d}" for it in [*range(1, 11), *range(80, 100)]]),
+                ("7252", "", "", "0129"),
+                ("8001", "123400005006", "7", "019"),
+            ]
+            for code in map("".join, itertools.product("0123456789", repeat=len(codes[0])))
+        ])
+
+    def test_two_numbers_that_are_compared(self):
+        # A piece and the total of pieces: neither is 0, and the piece is no more than the total.
+        edges = [0, 1, 2, 3, 9, 10, 98, 99]
+        self.are_answered([
+            (ai, f"09501101530003{piece:02d}{total:02d}", 0 < piece <= total)
+            for ai, piece, total in itertools.product(["8006", "8026"], edges, edges)
+        ])
+        self.are_answered([("7258", f"{place}/{total}", 0 < place <= total) for place, total in itertools.product(range(10), repeat=2)])
+
+    def test_lengths_of_an_iban(self):
+        # Two letters, two check digits, and an account of at least one character.
+        self.gives_lines("check --year 2026 --ais all", [
+            ("text,8007", "refused 6 ValueLength 0"),
+            ("text,8007A", "refused 8 ValueCheckDigit 0"),
+            ("text,8007AA", "refused 8 ValueCheckDigit 0"),
+            ("text,8007AA7", "refused 8 ValueCheckDigit 0"),
+            ("text,8007AA75", "refused 8 ValueCheckDigit 0"),
+            ("text,8007AA69B", "hri (8007)AA69B"),
+            ("text,8007AA70B", "refused 8 ValueCheckDigit 0"),
+            (f"text,8007AA34{30 * 'B'}", f"hri (8007)AA34{30 * 'B'}"),
+            (f"text,8007AA34{31 * 'B'}", "refused 10 MissingSeparator 0"),
         ])
