@@ -150,6 +150,18 @@ def try_current(tests: Tests, tree: Tree) -> None:
     tests.expect("after a new release", tree.run("a", "b"), (0, "again a b\n", ""))
 
 
+def try_stacks(tests: Tests, tree: Tree) -> None:
+    """Stacks with and without room for the program."""
+    for kib, wanted in [
+        ("191", (69, "", "gs1_hub: the stack may have 191 KiB, and the program needs 192; raise the limit: ulimit -s 8192\n")),
+        ("192", (0, "released a\n", "")),
+        ("unlimited", (0, "released a\n", "")),
+    ]:
+        ran = subprocess.run(["sh", "-c", f"ulimit -s {kib}; exec sh ./gs1_hub a"], cwd=tree.folder, env=tree.environment(),
+                             capture_output=True, text=True, check=False)
+        tests.expect(f"a stack of {kib}", (ran.returncode, ran.stdout, ran.stderr), wanted)
+
+
 def try_other(tests: Tests, tree: Tree) -> None:
     """Sources that are not those of the release."""
     tree.source.write_text("two\n", encoding="ascii")
@@ -287,7 +299,7 @@ def best_time(*command: str) -> float:
 
 def main() -> int:
     tests = Tests()
-    for attempt in [try_current, try_other, try_damage, try_processors, try_places, try_files, try_many]:
+    for attempt in [try_current, try_stacks, try_other, try_damage, try_processors, try_places, try_files, try_many]:
         with tempfile.TemporaryDirectory() as folder:
             attempt(tests, Tree(pathlib.Path(folder).resolve()))
     if tests.skipped:

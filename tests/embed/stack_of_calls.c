@@ -1,0 +1,98 @@
+/* Counts the stack that each call of gs1.h takes, other than gs1_picture (picture_calls.c), on its dearest inputs: docs/C.md says how much. */
+#define _GNU_SOURCE
+#include "gs1.h"
+#include <pthread.h>
+#include <stdio.h>
+#include <stdlib.h>
+#include <string.h>
+#include <sys/mman.h>
+
+enum { MOST_STACK = 48 * 1024, STACK = 1024 * 1024, PAINT = 0xa5, YEAR = GS1_EVERY_AI | 2026 };
+
+static const char STRING[] = "0109501101530003" "3103001750" "390201995\x1d" "17261231" "10LOT7\x1d" "7007260228260301\x1d" "21SERIAL";
+static const char LINK[] = "https://id.gs1.org/some/path/01/9501101530003/10/LOT%37/21/SERIAL?17=261231&3103=001750&7007=260228260301&x=y";
+static uint16_t widths[600];
+static uint8_t bits[100], out[1 << 16];
+static struct gs1_answer answer;
+
+static void nothing(const uint8_t *text, size_t length) { (void)text, (void)length; }
+static void row(const uint8_t *text, size_t length) { (void)text, gs1_row(widths, length, YEAR, out, sizeof out); }
+static void row_elements(const uint8_t *text, size_t length) { (void)text, gs1_row_elements(widths, length, YEAR, out, sizeof out); }
+static void find(const uint8_t *text, size_t length) { (void)text, gs1_find(widths, length, YEAR, out, sizeof out); }
+static void dots(const uint8_t *text, size_t length) { gs1_dots(text, 8 * length, YEAR, out, sizeof out); }
+static void dots_elements(const uint8_t *text, size_t length) { gs1_dots_elements(text, 8 * length, YEAR, out, sizeof out); }
+static void find_dots(const uint8_t *text, size_t length) { gs1_find_dots(text, 8 * length, YEAR, out, sizeof out); }
+static void date(const uint8_t *text, size_t length) { gs1_date(text, length, YEAR, out, sizeof out); }
+static void scan(const uint8_t *text, size_t length) { gs1_scan(text, length, YEAR, out, sizeof out); }
+static void gtin(const uint8_t *text, size_t length) { gs1_gtin(text, length, out, sizeof out); }
+static void digit(const uint8_t *text, size_t length) { gs1_digit(text, length, out, sizeof out); }
+static void text_hri(const uint8_t *text, size_t length) { gs1_text(text, length, YEAR, out, sizeof out); }
+static void text_elements(const uint8_t *text, size_t length) { gs1_text_elements(text, length, YEAR, out, sizeof out); }
+static void label(const uint8_t *text, size_t length) { gs1_label(GS1_GS1128, text, length, YEAR, 1, 800, 60, out, sizeof out); }
+static void symbol(const uint8_t *text, size_t length) { gs1_symbol(GS1_GS1128, text, length, YEAR, out, sizeof out); }
+static void read_message(const uint8_t *text, size_t length) { gs1_read_message(text, length, YEAR, &answer); }
+static void read_elements(const uint8_t *text, size_t length) { gs1_read_elements(text, length, YEAR, &answer); }
+static void read_gtin(const uint8_t *text, size_t length) { gs1_read_gtin(text, length, YEAR, &answer); }
+static void read_row(const uint8_t *text, size_t length) { (void)text, gs1_read_row(widths, length, YEAR, &answer); }
+static void read_dots(const uint8_t *text, size_t length) { gs1_read_dots(text, 8 * length, YEAR, &answer); }
+static void read_data(const uint8_t *text, size_t length) { gs1_read_data(text, length, YEAR, &answer); }
+static void format(const uint8_t *text, size_t length) { read_message(text, length), gs1_format(&answer, GS1_AS_DATA, out, sizeof out); }
+
+struct asked {
+    const char *name;
+    void (*call)(const uint8_t *text, size_t length);
+    const void *text;
+    size_t length;
+};
+
+static void *ask(void *asked) {
+    const struct asked *it = asked;
+    it->call(it->text, it->length);
+    return NULL;
+}
+
+/* The bytes that a thread which makes the call writes on its stack. */
+static size_t stack_of(struct asked it) {
+    uint8_t *stack = mmap(NULL, STACK, PROT_READ | PROT_WRITE, MAP_PRIVATE | MAP_ANONYMOUS, -1, 0);
+    pthread_attr_t attributes;
+    pthread_t thread;
+    if (stack == MAP_FAILED) abort();
+    memset(stack, PAINT, STACK);
+    pthread_attr_init(&attributes);
+    if (pthread_attr_setstack(&attributes, stack, STACK) || pthread_create(&thread, &attributes, ask, &it)) abort();
+    pthread_join(thread, NULL);
+    size_t left = 0;
+    while (left < STACK && stack[left] == PAINT) left++;
+    munmap(stack, STACK);
+    return STACK - left;
+}
+
+int main(int count, char **words) {
+    const char *line = "]C1 01=09501101530003\t10=LOT7\t17=261231";
+    /* The middle row of a label, as dots and as widths: a PBM image ends with its 60 rows. */
+    size_t image = gs1_label(GS1_GS1128, (const uint8_t *)STRING, 26, YEAR, 1, 8 * sizeof bits, 60, out, sizeof out), runs = 0;
+    if (image > sizeof out || gs1_status(out, image)) abort();
+    memcpy(bits, out + image - 30 * sizeof bits, sizeof bits);
+    for (size_t i = 0, dark = 0; i < 8 * sizeof bits; i++) {
+        size_t here = bits[i / 8] >> (7 - i % 8) & 1;
+        runs += here != dark, dark = here, widths[runs]++;
+    }
+    const struct asked all[] = {
+        {"gs1_row", row, widths, runs + 1}, {"gs1_row_elements", row_elements, widths, runs + 1}, {"gs1_find", find, widths, runs + 1},
+        {"gs1_dots", dots, bits, sizeof bits}, {"gs1_dots_elements", dots_elements, bits, sizeof bits}, {"gs1_find_dots", find_dots, bits, sizeof bits},
+        {"gs1_date", date, "7007260228260301", 16}, {"gs1_scan", scan, LINK, sizeof LINK - 1}, {"gs1_gtin", gtin, "9501101530003", 13},
+        {"gs1_digit", digit, "950110153000", 12}, {"gs1_text", text_hri, STRING, sizeof STRING - 1},
+        {"gs1_text_elements", text_elements, STRING, sizeof STRING - 1}, {"gs1_label", label, STRING, 26}, {"gs1_symbol", symbol, STRING, 26},
+        {"gs1_read_message", read_message, LINK, sizeof LINK - 1}, {"gs1_read_elements", read_elements, STRING, sizeof STRING - 1},
+        {"gs1_read_gtin", read_gtin, "9501101530003", 13}, {"gs1_read_row", read_row, widths, runs + 1}, {"gs1_read_dots", read_dots, bits, sizeof bits},
+        {"gs1_read_data", read_data, line, strlen(line)}, {"gs1_format", format, LINK, sizeof LINK - 1},
+    };
+    size_t most = 0, empty = stack_of((struct asked){"nothing", nothing, NULL, 0});
+    for (size_t i = 0; i < sizeof all / sizeof *all; i++) {
+        size_t stack = stack_of(all[i]) - empty;
+        if (count > 1 && words[1]) printf("%s %zu\n", all[i].name, stack);
+        most = stack > most ? stack : most;
+    }
+    printf("%zu calls: at most %zu bytes of stack, of %d\n", sizeof all / sizeof *all, most, MOST_STACK);
+    return most > MOST_STACK;
+}
