@@ -8,8 +8,7 @@
 If a list has errors, nothing is made: :class:`Faults` has each with its line. The proved library reads each drawn label,
 which must say what the list says.
 
-PDF needs reportlab, PNG and label printers need Pillow: ``pip install noriladle[labels]``, or Debian's python3-reportlab
-and python3-pil. SVG needs neither. All need a TrueType font.
+All need a TrueType font, and PDF needs reportlab: ``pip install noriladle[labels]``, or Debian's python3-reportlab.
 """
 from __future__ import annotations
 
@@ -32,7 +31,7 @@ from ._stocks import KNOWN, Stock, stock_of
 from ._symbols import IDENTIFIERS, bars_of
 
 if TYPE_CHECKING:
-    from PIL import Image
+    from ._dots import Image
 
 __all__ = ["KNOWN", "RESOLUTIONS", "Article", "Fault", "Faults", "Fonts", "LabelWarning", "Labels", "Look",
            "MOST_LABELS", "PriceList", "Stock", "fonts_of", "make", "missing", "read_list", "stock_of"]
@@ -124,7 +123,7 @@ class Labels:
 
     def pngs(self) -> Iterator[bytes]:
         """Each page."""
-        from ._dots import png_of  # Only for dots Pillow is needed.
+        from ._dots import png_of
 
         return (png_of(page, self.stock, self.look) for page in self.pages())
 
@@ -146,7 +145,7 @@ class Labels:
 
         return b"".join(tspl_of(image, self.stock, copies) for image, copies in self._images())
 
-    def _images(self) -> Iterator[Tuple[Image.Image, int]]:
+    def _images(self) -> Iterator[Tuple[Image, int]]:
         """The dots of each label, and how many copies it has."""
         from ._dots import image_of
 

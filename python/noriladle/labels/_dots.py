@@ -4,53 +4,85 @@ A label printer gets the whole label as dots, texts too. So every script prints,
 """
 from __future__ import annotations
 
-import io
 import re
-from functools import lru_cache
-from typing import List
+import struct
+import zlib
+from typing import List, Sequence
 
-from PIL import Image, ImageDraw, ImageFont
-
-from ._drawing import Drawing, Look
+from ._drawing import Drawing, Look, Text
+from ._letters import dots_of
 from ._pages import Page
 from ._stocks import Stock
-
 
 _GAP = 3
 """The mm between two labels of a roll."""
 
 
-def png_of(page: Page, stock: Stock, look: Look) -> bytes:
-    """A page as PNG of black and white dots, with its resolution."""
-    sheet = Image.new("1", (round(stock.page[0] * look.dots), round(stock.page[1] * look.dots)), 1)
-    for placed in page:
-        sheet.paste(image_of(placed.drawing, look.turned), (placed.left, placed.top))
-    out = io.BytesIO()
-    sheet.save(out, "PNG", dpi=(look.dots * 25.4,) * 2)
-    return out.getvalue()
+class Image:
+    """Dark dots on light. A row is a number, whose highest bit is the left dot; 1 is dark."""
 
+    def __init__(self, width: int, rows: Sequence[int]) -> None:
+        self.width, self.rows = width, list(rows)
 
-def image_of(drawing: Drawing, turned: bool) -> Image.Image:
-    """A label's dots: 1 is light."""
-    image = Image.new("1", (drawing.width, drawing.height), 1)
-    pen = ImageDraw.Draw(image)
-    for text in drawing.texts:
-        font = _font(str(text.font.path), round(text.size))
+    @property
+    def height(self) -> int:
+        """How many rows it has."""
+        return len(self.rows)
+
+    def put(self, width: int, rows: Sequence[int], left: int, top: int) -> None:
+        """Darkens the dark dots of other rows, from a place on. What lies outside is cut off."""
+        shift, whole = self.width - left - width, (1 << self.width) - 1
+        for place, row in enumerate(rows, top):
+            if row and 0 <= place < self.height:
+                self.rows[place] |= (row << shift if shift >= 0 else row >> -shift) & whole
+
+    def write(self, text: Text) -> None:
+        """Puts a text, each letter at whole dots, so that it looks the same everywhere."""
         for piece, middle in text.pieces():
-            pen.text((middle, text.base), piece, font=font, fill=0, anchor="ms")
+            at = middle - text.font.width(piece, text.size) / 2
+            for letter in piece:
+                dots = dots_of(text.font.path, letter, text.size)
+                self.put(dots.width, dots.rows, round(at) + dots.left, round(text.base) - dots.top)
+                at += text.font.width(letter, text.size)
+
+    def turned(self) -> Image:
+        """The same, turned to the right by 90 degrees."""
+        columns = zip(*(f"{row:0{self.width}b}" for row in reversed(self.rows)))
+        return Image(self.height, [int("".join(column), 2) for column in columns])
+
+    def packed(self, light: int) -> "tuple[int, List[bytes]]":
+        """How many bytes a row has, and the rows, eight dots a byte. Dots after the last are light."""
+        wide = (self.width + 7) // 8
+        return wide, [(row << 8 * wide - self.width ^ light * ((1 << 8 * wide) - 1)).to_bytes(wide, "big") for row in self.rows]
+
+
+def png_of(page: Page, stock: Stock, look: Look) -> bytes:
+    """A page as PNG of black and white dots, with its resolution (PNG 1.2, sections 3 and 4)."""
+    width, height = (round(length * look.dots) for length in stock.page)
+    sheet = Image(width, [0] * height)
+    for placed in page:
+        label = image_of(placed.drawing, look.turned)
+        sheet.put(label.width, label.rows, placed.left, placed.top)
+    # One bit a dot, grey, no interlace; then dots in a metre. Each row begins with the number of its filter, which is none.
+    chunks = {b"IHDR": struct.pack(">IIBBBBB", width, height, 1, 0, 0, 0, 0), b"pHYs": struct.pack(">IIB", *(round(look.dots * 1000),) * 2, 1),
+              b"IDAT": zlib.compress(b"".join(b"\0" + row for row in sheet.packed(light=1)[1])), b"IEND": b""}
+    return b"\x89PNG\r\n\x1a\n" + b"".join(struct.pack(">I", len(data)) + name + data + struct.pack(">I", zlib.crc32(name + data))
+                                          for name, data in chunks.items())
+
+
+def image_of(drawing: Drawing, is_turned: bool) -> Image:
+    """A label's dots."""
+    image = Image(drawing.width, [0] * drawing.height)
+    for text in drawing.texts:
+        image.write(text)
     for left, top, width, height in drawing.boxes:
-        pen.rectangle((left, top, left + width - 1, top + height - 1), fill=0)
-    return image.transpose(Image.Transpose.ROTATE_270) if turned else image
+        image.put(width, [(1 << width) - 1] * height, left, top)
+    return image.turned() if is_turned else image
 
 
-@lru_cache(maxsize=256)
-def _font(path: str, size: int) -> ImageFont.FreeTypeFont:
-    return ImageFont.truetype(path, size)
-
-
-def zpl_of(image: Image.Image, copies: int) -> bytes:
+def zpl_of(image: Image, copies: int) -> bytes:
     """A label as ZPL II: one picture of dots; 1 is dark."""
-    wide, rows = _rows(image, dark=1)
+    wide, rows = image.packed(light=0)
     told = "".join(_zpl_row(row, before) for row, before in zip(rows, [b"", *rows]))
     size = wide * image.height
     return (f"^XA\n^PW{image.width}\n^LL{image.height}\n^LH0,0\n^FO0,0^GFA,{size},{size},{wide},{told}^FS\n^PQ{copies}\n^XZ\n"
@@ -78,27 +110,16 @@ def _zpl_run(run: "re.Match[str]") -> str:
     return "".join(letters) + run[1]
 
 
-def epl_of(image: Image.Image, look: Look, copies: int) -> bytes:
+def epl_of(image: Image, look: Look, copies: int) -> bytes:
     """A label as EPL2: one picture of dots; 1 is light."""
-    wide, rows = _rows(image, dark=0)
+    wide, rows = image.packed(light=1)
     head = f"\nN\nq{image.width}\nQ{image.height},{round(_GAP * look.dots)}\nGW0,0,{wide},{image.height},"
     return head.encode("ascii") + b"".join(rows) + f"\nP{copies}\n".encode("ascii")
 
 
-def tspl_of(image: Image.Image, stock: Stock, copies: int) -> bytes:
+def tspl_of(image: Image, stock: Stock, copies: int) -> bytes:
     """A label as TSPL: one picture of dots; 1 is light."""
-    wide, rows = _rows(image, dark=0)
+    wide, rows = image.packed(light=1)
     size = f"SIZE {stock.width:g} mm,{stock.height:g} mm\r\nGAP {_GAP} mm,0 mm"
     head = f"{size}\r\nDIRECTION 1\r\nCLS\r\nBITMAP 0,0,{wide},{image.height},0,"
     return head.encode("ascii") + b"".join(rows) + f"\r\nPRINT 1,{copies}\r\n".encode("ascii")
-
-
-def _rows(image: Image.Image, dark: int) -> "tuple[int, List[bytes]]":
-    """How many bytes a row has, and the rows, eight dots a byte. Dots after the last are light."""
-    wide = (image.width + 7) // 8
-    padded = Image.new("1", (8 * wide, image.height), 1)
-    padded.paste(image, (0, 0))
-    data = padded.tobytes()
-    if dark:
-        data = bytes(255 - byte for byte in data)
-    return wide, [data[at:at + wide] for at in range(0, len(data), wide)]

@@ -2,33 +2,30 @@
 from __future__ import annotations
 
 import importlib.util
-from typing import List, NamedTuple, Optional
+from typing import List, NamedTuple
 
 from ._fonts import fonts_of
 
 
 class Package(NamedTuple):
-    """A package of Debian: what people call it, its name, and its module."""
+    """A package of Debian: what people call it, and its name."""
 
     said: str
     name: str
-    module: str = ""
 
 
-_REPORTLAB, _PILLOW = Package("reportlab", "python3-reportlab", "reportlab"), Package("Pillow", "python3-pil", "PIL")
-_FONT = Package("a font", "fonts-liberation")
+_REPORTLAB, _FONT = Package("reportlab", "python3-reportlab"), Package("a font", "fonts-liberation")
 
 
 def missing(form: str, has_font: bool) -> str:
     """What a format needs and this machine lacks, with what to do, in one line; empty if nothing is missing.
 
-    SVG needs only a font, PDF reportlab too, and PNG and label printers need Pillow. ``has_font`` says that the person has
-    named a font, so none needs to be installed.
+    Each needs a font, and PDF reportlab too. ``has_font`` says that the person has named a font, so none needs to be
+    installed.
     """
     lacking: List[Package] = []
-    module: Optional[Package] = {"pdf": _REPORTLAB, "svg": None}.get(form, _PILLOW)
-    if module and importlib.util.find_spec(module.module) is None:
-        lacking.append(module)
+    if form == "pdf" and importlib.util.find_spec("reportlab") is None:
+        lacking.append(_REPORTLAB)
     if not has_font and not _has_font():
         lacking.append(_FONT)
     if not lacking:

@@ -1,4 +1,4 @@
-"""What labels need of a TrueType font: its characters and their widths (OpenType: cmap, head, hhea and hmtx)."""
+"""What the layout of labels needs of a TrueType font: its characters and their widths (OpenType: cmap, head, hhea and hmtx)."""
 from __future__ import annotations
 
 import struct
@@ -33,14 +33,14 @@ def metrics_of(path: Path) -> Metrics:
 
 
 def _metrics(data: bytes) -> Metrics:
-    tables = dict(_tables(data))
+    tables = dict(tables_of(data))
     em, = struct.unpack_from(">H", data, tables["head"] + 18)
     count, = struct.unpack_from(">H", data, tables["hhea"] + 34)
     # Glyphs behind the last width are as wide as that one.
     advances = [advance / em for advance, _ in struct.iter_unpack(">Hh", data[tables["hmtx"]:tables["hmtx"] + 4 * count])]
     if "glyf" not in tables or len(advances) != count:
         raise KeyError("glyf")
-    glyphs = {code: glyph for code, glyph in _characters(data, tables["cmap"]) if glyph}
+    glyphs = {code: glyph for code, glyph in characters_of(data, tables["cmap"]) if glyph}
     widths = {chr(code): advances[min(glyph, count - 1)] for code, glyph in glyphs.items()}
     # Programs draw a blank that breaks no line as a blank.
     if " " in widths:
@@ -48,7 +48,7 @@ def _metrics(data: bytes) -> Metrics:
     return Metrics(widths, advances[0])
 
 
-def _tables(data: bytes) -> Iterator[Tuple[str, int]]:
+def tables_of(data: bytes) -> Iterator[Tuple[str, int]]:
     """The tables, each with its offset."""
     at, = struct.unpack_from(">I", data, 12) if data[:4] == b"ttcf" else (0,)
     if data[at:at + 4] not in (b"\0\1\0\0", b"true"):
@@ -60,7 +60,7 @@ def _tables(data: bytes) -> Iterator[Tuple[str, int]]:
         yield tag.decode("latin-1"), offset
 
 
-def _characters(data: bytes, at: int) -> Iterator[Tuple[int, int]]:
+def characters_of(data: bytes, at: int) -> Iterator[Tuple[int, int]]:
     """The code points of Unicode with their glyphs."""
     for place in range(struct.unpack_from(">H", data, at + 2)[0]):
         platform, encoding, offset = struct.unpack_from(">HHI", data, at + 4 + 8 * place)
