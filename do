@@ -5,7 +5,7 @@ self=$(readlink -f "${BASH_SOURCE[0]}")
 cd "$(dirname "$self")"
 
 build() {
-    package/program --version "$@"
+    NORILADLE_ANEW=1 ./gs1_hub --version
     python/build
     page/build
 }

@@ -24,7 +24,7 @@ sleep "${NAP:-0}"
 [ "$name" != "${FAILS:-}" ] || { echo "not proved"; exit 1; }
 case $out in *.rlib) mkdir -p "$out" ;; *) echo "$name" >"$out" ;; esac
 """
-SCRIPTS = ["prove", "prove.mk", "program", "sources"]
+SCRIPTS = ["prove", "prove.mk", "sources"]
 LINK = """#!/bin/sh
 while [ $# -gt 0 ]; do
     case $1 in -o) printf '#!/bin/sh\\necho "ran $*"\\nexit 3\\n' >"$2" && chmod +x "$2" ;; esac
@@ -137,13 +137,13 @@ def main():
 
     with tempfile.TemporaryDirectory() as folder:
         tree = Tree(folder, crates)
-        status, said, asked = tree.run("package/program", "--version")
+        status, said, asked = tree.run("gs1_hub", "--version")
         is_so = status == 3 and "ran" in said and sorted(asked) == sorted(hub) and in_order(asked)
         expect("a first run", is_so, (status, said, asked))
-        status, said, asked = tree.run("package/program")
+        status, said, asked = tree.run("gs1_hub", NORILADLE_ANEW="1")
         expect("a second", status == 3 and said.startswith("ran") and not asked, (status, said, asked))
         tree.edit("acceptance")
-        status, said, asked = tree.run("package/program")
+        status, said, asked = tree.run("gs1_hub", NORILADLE_ANEW="1")
         expect("a crate that it does not stand on, though it says the sum of all", status == 3 and asked == ["gs1_hub"], (status, said, asked))
         os.rename(tree.kit, f"{tree.kit}.away")
         status, said, asked = tree.run("gs1_hub")
@@ -171,7 +171,7 @@ def main():
 
         tree.edit("digits_core")
         for sign in [signal.SIGINT, signal.SIGTERM]:
-            with tree.start("package/program", NAP="1") as ran:
+            with tree.start("gs1_hub", NAP="1", NORILADLE_ANEW="1") as ran:
                 said = ""
                 while not re.search(r"(digits|element)_core: proved", said) and (line := ran.stdout.readline()):
                     said += line
