@@ -15,8 +15,8 @@ from typing import Any, Callable, DefaultDict, Dict, List, Optional, Sequence, S
 
 try:
     import hiredis
-except ImportError as fault:
-    raise ImportError("Redis needs hiredis: apt-get install python3-hiredis") from fault
+except ImportError:  # Helps and manual pages need no Redis.
+    hiredis = None
 
 Word = Union[str, int]
 REPLY = 8 << 20
@@ -86,6 +86,8 @@ class Redis:
         self, addresses: Sequence[str], user: Optional[str] = None, password: Optional[str] = None,
         tls: Optional[ssl.SSLContext] = None, note: Callable[[str], None] = lambda said: None, master: Optional[str] = None,
     ) -> None:
+        if hiredis is None:
+            raise ImportError("Redis needs hiredis: apt-get install python3-hiredis")
         self._addresses, self._tls, self._note, self._master = set(addresses), tls, note, master
         self._login = [] if password is None else ["AUTH", *([user] if user else []), password]
         self._free: DefaultDict[str, List[_Connection]] = defaultdict(list)

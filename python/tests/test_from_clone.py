@@ -123,6 +123,17 @@ def test_without_modules(whole, tmp_path, bare):
         assert made(form) == (0, f"21 labels{pages} in {tmp_path}/labels.{form}", True)
 
 
+def test_helps_need_no_modules(whole, tmp_path, bare):
+    """package/build makes manual pages of them, and needs Python alone."""
+    helps = ran(whole, "--help", cache=tmp_path, env=bare).stdout
+    names = re.findall(r"^  (\w+)  ", helps.partition("Commands:\n")[2].partition("\n\n")[0], re.MULTILINE)
+    assert {"labels", "worker", "till"} <= {*names}
+    for name in names:
+        assert ran(whole, name, "--help", cache=tmp_path, env=bare).returncode == 0, name
+    run = ran(whole, "till", "--redis", "127.0.0.1:1", "north", cache=tmp_path, env=bare, input="")
+    assert (run.returncode, run.stderr) == (2, "noriladle: Redis needs hiredis: apt-get install python3-hiredis\n")
+
+
 def test_without_a_font(monkeypatch):
     from noriladle.labels import _fonts, missing
 
