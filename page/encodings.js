@@ -1,5 +1,5 @@
 // @ts-check
-// Finds how the text of a list is encoded, by evidence. shop/encodings.json has the tables; docs/LABELS.md says the
+// Finds how the text of a list is encoded, by evidence. shop/encodings.json has the tables; shop/README.md says the
 // rule. As python/noriladle/_encodings.py.
 "use strict";
 

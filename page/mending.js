@@ -1,5 +1,5 @@
 // @ts-check
-// What a number was meant to be, if somebody wrote it in another way. docs/READING.md says the rule. As
+// What a number was meant to be, if somebody wrote it in another way. shop/README.md says the rule. As
 // python/noriladle/_mending.py.
 "use strict";
 

@@ -1,5 +1,5 @@
 // @ts-check
-// Finds which heading of a list is the price on the shelf. shop/prices.json has the words; docs/LABELS.md says the
+// Finds which heading of a list is the price on the shelf. shop/prices.json has the words; shop/README.md says the
 // rule. As python/noriladle/_prices.py.
 "use strict";
 

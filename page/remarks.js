@@ -1,6 +1,6 @@
 // @ts-check
 // Finds what a list says of its prices outside their heading: in titles, between its lines and in other columns, such as
-// "all prices without tax", or a column of units that says "carton". docs/LABELS.md has the rule. As
+// "all prices without tax", or a column of units that says "carton". shop/README.md has the rule. As
 // python/noriladle/_remarks.py.
 "use strict";
 

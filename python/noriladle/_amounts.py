@@ -1,4 +1,4 @@
-"""Reads prices as people write them, and says how they are printed. docs/LABELS.md says the rule."""
+"""Reads prices as people write them, and says how they are printed. shop/README.md says the rule."""
 from __future__ import annotations
 
 import re

@@ -1,4 +1,4 @@
-"""Finds how the text of a list is encoded, by evidence. shop/encodings.json has the tables, docs/LABELS.md the rule."""
+"""Finds how the text of a list is encoded, by evidence. shop/encodings.json has the tables, shop/README.md the rule."""
 from __future__ import annotations
 
 import re

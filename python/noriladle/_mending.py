@@ -1,4 +1,4 @@
-"""What a number was meant to be, if somebody wrote it in another way. docs/READING.md says the rule."""
+"""What a number was meant to be, if somebody wrote it in another way. shop/README.md says the rule."""
 from __future__ import annotations
 
 import re

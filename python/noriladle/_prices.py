@@ -1,4 +1,4 @@
-"""Finds which heading of a list is the price on the shelf. shop/prices.json has the words, docs/LABELS.md the rule."""
+"""Finds which heading of a list is the price on the shelf. shop/prices.json has the words, shop/README.md the rule."""
 from __future__ import annotations
 
 import re

@@ -1,5 +1,5 @@
 """Finds what a list says of its prices outside their heading: in titles, between its lines and in other columns, such as
-"all prices without tax", or a column of units that says "carton". docs/LABELS.md has the rule."""
+"all prices without tax", or a column of units that says "carton". shop/README.md has the rule."""
 from __future__ import annotations
 
 import re
