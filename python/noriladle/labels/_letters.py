@@ -115,7 +115,8 @@ class _Font:
                     at += 2
                 lines[-1].append(value)
         points = [Point(x, y, flag & _ON != 0) for x, y, flag in zip(*lines, flags)]
-        return [points[begin:end + 1] for begin, end in zip([0, *(end + 1 for end in ends)], ends) if begin <= end]
+        # Outlines of one or two points tie letters to each other, and have no inside.
+        return [points[begin:end + 1] for begin, end in zip([0, *(end + 1 for end in ends)], ends) if begin + 1 < end]
 
     def _composite(self, at: int, depth: int) -> List[List[Point]]:
         made: List[List[Point]] = []
