@@ -123,6 +123,16 @@ function roundedPrice({ whole, point, fraction }, decimals) {
 }
 
 /**
+ * The number of a cell that is written like a price; 0 for any other cell, and if its decimals may be a group.
+ * @param {string} cell
+ */
+function cellAmount(cell) {
+  const written = writtenPrice(trimmed(cell));
+  if (!written || written.isBelow || written.fraction.length === 3 && written.whole !== "0") return 0;
+  return Number(`${written.whole.replace(/[^0-9]/g, "")}.${written.fraction || 0}`);
+}
+
+/**
  * The parts of a cell that is written like a price; or nothing.
  * @param {string} cell
  * @returns {Written | undefined}

@@ -300,10 +300,25 @@ class Look {
     if (this.asked.price) return this.asked.price;
     const free = this.free(places);
     if (!this.hasHeading) return this.isLines ? [] : this.amounts(free, records);
-    return shelfPrices(free.flatMap((place) => {
+    const found = free.flatMap((place) => {
       const heading = priceHeading(this.first.cells[place] ?? "");
-      return heading && (this.hasCells(place) || !records.length) ? [{ place, heading }] : [];
-    }));
+      return heading && (this.hasCells(place) || !records.length) ? [{ place, heading, cells: this.filled(place) }] : [];
+    });
+    const flags = found.filter(({ cells }) => cells.length && cells.every((cell) => FLAGS.has(cell)));
+    const best = shelfPrices(found), others = shelfPrices(found.filter((one) => !flags.includes(one)));
+    // A column that says yes or no is no price. One of 1 and 0 may be a price, too.
+    const mayBeBoth = flags.some(({ cells }) => cells.some((cell) => /[0-9]/.test(cell)));
+    if (!others.length) return best;
+    return [...new Set([...others, ...(mayBeBoth ? best : [])])].sort((a, b) => a - b);
+  }
+
+  /**
+   * What stands in a column below the heading, in small letters.
+   * @param {number} place
+   */
+  filled(place) {
+    const cells = this.records.slice(1).map(({ cells: { [place]: cell = "" } }) => trimmed(cell).toLowerCase());
+    return [...new Set(cells.filter(Boolean))];
   }
 
   /**
@@ -344,11 +359,12 @@ class Look {
    * @returns {PriceQuestion}
    */
   priceQuestion(choice, places) {
-    const told = new Map(this.first.cells.flatMap((cell, place) => {
-      const reason = this.hasHeading ? priceHeading(cell)?.reason : "";
-      return reason ? [[place, reason]] : [];
-    }));
     const looking = this.amounts(this.free(places), this.records.slice(Number(this.hasHeading)));
+    const told = new Map(this.hasHeading ? this.first.cells.flatMap((cell, place) => {
+      const sure = looking.includes(place) ? reasonIn(cell) : "";
+      const reason = priceHeading(cell)?.reason || (PRICES.remarks.reasons.includes(sure) ? sure : "");
+      return reason ? [[place, reason]] : [];
+    }) : []);
     const columns = choice.length ? choice : [...new Set([...told.keys(), ...looking])].sort((a, b) => a - b);
     const named = columns.map((place) => told.has(place) && !choice.length
       ? { key: "because", values: [this.nameOf(place), { key: told.get(place) }] } : this.named(place));

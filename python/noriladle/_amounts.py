@@ -119,6 +119,14 @@ def price_like(cell: str) -> bool:
     return bool(price and price.point)
 
 
+def cell_amount(cell: str) -> float:
+    """The number of a cell that is written like a price; 0 for any other cell, and if its decimals may be a group."""
+    price = _written(cell.strip())
+    if not price or price.is_below or len(price.fraction) == 3 and price.whole != "0":
+        return 0.0
+    return float(f"{re.sub('[^0-9]', '', price.whole)}.{price.fraction or 0}")
+
+
 def _written(cell: str) -> Optional[_Written]:
     """The parts of a cell that is written like a price."""
     found = _DIGIT.search(cell) and _PRICE.fullmatch(cell)

@@ -11,7 +11,7 @@ from ._files import opened_list
 from ._headings import LONGER, MEANINGS, Headings, known, plain
 from ._lists import SPREADSHEET, WHOLE_LINES, Fault, Faults, Record, Sheet
 from ._prices import PriceHeading, price_of, shelf_prices
-from ._remarks import remark_on
+from ._remarks import FLAGS, remark_on
 from ._shop import said, sentence_of_lines, told
 from ._texts import Unreadable, looks_right, read_text
 
@@ -257,8 +257,17 @@ class _Look:
         if not has_heading:
             return self._amounts(free, records) if self.sheet.delimiter != WHOLE_LINES else []
         headings = {place: price_of(self.first.cells[place]) for place in free if place < len(self.first.cells)}
-        return shelf_prices({place: heading for place, heading in headings.items()
-                             if heading and (self._has_cells(place) or not records)})
+        found = {place: heading for place, heading in headings.items() if heading and (self._has_cells(place) or not records)}
+        flags = {place: cells for place, cells in ((it, self._filled(it)) for it in found) if cells and cells <= FLAGS}
+        best, others = shelf_prices(found), shelf_prices({it: found[it] for it in found.keys() - flags.keys()})
+        # A column that says yes or no is no price. One of 1 and 0 may be a price, too.
+        may_be_both = any(cell.isdigit() for cells in flags.values() for cell in cells)
+        return best if not others else sorted({*others, *(best if may_be_both else [])})
+
+    def _filled(self, place: int) -> Set[str]:
+        """What stands in a column below the heading, in small letters."""
+        cells = (record.cells[place].strip().lower() for record in self.records[1:] if place < len(record.cells))
+        return {cell for cell in cells if cell}
 
     def _free(self, places: Mapping[str, Sequence[int]]) -> List[int]:
         """The columns that are no number, name, kind or line, and no number of copies."""

@@ -7,7 +7,7 @@ from functools import lru_cache
 from typing import Dict, List, Sequence, Tuple
 
 from ._lists import Fault, Record
-from ._prices import CARTON, folded, price_of
+from ._prices import CARTON, SURE_REASONS, folded, price_of, reason_in
 from ._shop import said, shared, told
 from ._texts import short
 
@@ -90,7 +90,8 @@ class Headings:
     def question(self, choice: Sequence[int], looking: Sequence[int]) -> Fault:
         """The question which of some columns is the price; if there is none to choose, those that are about prices or look
         like some."""
-        reasons = self.reasons()
+        reasons = {place: reason for place in looking for reason in [reason_in(self.of(place))] if reason in SURE_REASONS}
+        reasons.update(self.reasons())
         columns = choice or sorted({*reasons, *looking})
         if choice:
             text = said("whichPrice", ", ".join(map(self.named, choice)))
@@ -100,7 +101,7 @@ class Headings:
                 for place in columns))
         else:
             return Fault(self.line, told("by", said("nonePrice"), "--no-price"))
-        return self._asked(self.line, text, next((place for place in columns if place not in reasons), columns[0]))
+        return self._asked(self.line, text, min(columns, key=lambda it: (it in reasons, reasons.get(it) == "purchase")))
 
     def doubt(self, price: int, line: int, cell: str) -> Fault:
         """The question whether a column is the price, since a cell of the list may mean that it is not."""

@@ -45,9 +45,11 @@ _IGNORED, _PRICE, _OWN, _GROSS, _RECOMMENDED, _TAXES, _WITH, _WITHOUT, _CENTS = 
     "ignored", "price", "own", "gross", "recommended", "taxes", "with", "without", "cents"))
 _SURE = any_of([word for name in ("price", "own", "gross", "recommended", "taxes", "with", "cents", "neutral")
               for word in _TABLE[name]] + [word for words in _TABLE["marks"].values() for word in words])
-CARTON = any_of(_TABLE["reasons"]["carton"])
-"""Words of a case, also in headings of numbers."""
 _REASONS = {name: any_of(patterns) for name, patterns in _TABLE["reasons"].items()}
+CARTON, DEPOSIT = _REASONS["carton"], _REASONS["deposit"]
+"""Words of a case, also in headings of numbers, and of what is paid with the price."""
+SURE_REASONS = frozenset(_TABLE["remarks"]["reasons"])
+"""Those that a text gives also outside a heading of prices."""
 _MARKS = {name: any_of(patterns) for name, patterns in _TABLE["marks"].items()}
 
 
@@ -75,7 +77,7 @@ def price_of(heading: str) -> Optional[PriceHeading]:
     if len(heading) > _MOST or not _PRICE.search(text):
         return None
     reason = _reason(text, _tax(text)[1])
-    points = bool(_OWN.search(text)) + bool(_GROSS.search(text)) + 2 * is_taxed(text)
+    points = bool(_OWN.search(text)) + bool(_GROSS.search(text)) + 2 * _tax(text)[0]
     marks = frozenset(name for name, pattern in _MARKS.items() if pattern.search(text))
     is_sure = not _SURE.sub("", text).strip()
     return PriceHeading(reason, -1 if _RECOMMENDED.search(text) else points, marks, bool(_CENTS.search(text)), is_sure)
@@ -95,9 +97,23 @@ def _reason(text: str, tax: str) -> str:
     return next((name for name, pattern in _REASONS.items() if name == tax or pattern.search(text)), "")
 
 
-def is_taxed(text: str) -> bool:
-    """Whether a folded heading says that the tax is included."""
-    return _tax(text)[0]
+def reason_in(heading: str) -> str:
+    """Why amounts below a heading are not prices of the shelf, also if it does not speak of prices; nothing if it does not say."""
+    text = _IGNORED.sub("", folded(heading[:_MOST]))
+    return _reason(text, _tax(text)[1])
+
+
+def has_tax(text: str) -> bool:
+    """Whether a folded heading says that its prices have the tax."""
+    return _tax(text)[0] or bool(_GROSS.search(text))
+
+
+@lru_cache(maxsize=4096)
+def may_add_tax(heading: str) -> bool:
+    """Whether a heading may be that of prices to which the tax was added: it speaks of tax or a total, and of no other price."""
+    text, reason = _IGNORED.sub("", folded(heading[:_MOST])), reason_in(heading)
+    says_so = reason in ("net", "total") or not reason and (_WITH.search(text) or _GROSS.search(text))
+    return bool(says_so) and not _RECOMMENDED.search(text)
 
 
 def _tax(text: str) -> Tuple[bool, str]:

@@ -68,7 +68,17 @@ EDITS = [
     ("articles.js", "if (isPoint && ", "if (false && "),
     ("articles.js", "new Set(alike.map(({ said }) => said)).size < 2", "true"),
     ("prices.js", "points < 0 ? [\"unclear\"] : []", "[]"),
-    ("remarks.js", "taxOf(words).isTaxed ? NETS_OR_NO : NETS", "NETS"),
+    ("remarks.js", "hasTax(words) ? NETS_OR_NO : NETS", "NETS"),
+    ("remarks.js", "if (hasTax(folded(headings[price] ?? \"\"))) return undefined;", ""),
+    ("remarks.js", "[-1, ...placesOf(REMARKS.quantities)]", "[-1]"),
+    ("remarks.js", "others.reduce((sum, one) => sum + one, price)", "price"),
+    ("remarks.js", "taxed.length > others.length", "taxed.length"),
+    ("remarks.js", "TAXED = 1.3", "TAXED = 2.3"),
+    ("remarks.js", "NEAR = 0.02", "NEAR = 0"),
+    ("prices.js", "[\"net\", \"total\"].includes(reason)", "reason === \"total\""),
+    ("prices.js", "saysSo && !has(PRICE_WORDS.recommended, text)", "saysSo"),
+    ("columns.js", "...(mayBeBoth ? best : [])", ""),
+    ("columns.js", "if (!others.length) return best;", "if (others.length < 9) return best;"),
     ("articles.js", "for (const record of table.lost) noteDoubt(numbers, record);", ""),
 ]
 
