@@ -438,13 +438,14 @@ function usualLength(records) {
 }
 
 /**
- * The table of a list. Throws a Faults, perhaps with a question.
+ * The table of a list of at most this many lines. Throws a Faults, perhaps with a question.
  * @param {ListTyped} list
  * @param {Answers} answers
+ * @param {number} most
  */
-function tableOf(list, answers = NOTHING_SAID) {
+function tableOf(list, answers = NOTHING_SAID, most = LIMIT) {
   if (list.text.length > LIMIT) throw tooLarge();
-  const sheets = sheetsOf(list);
+  const sheets = sheetsOf(list, most);
   const looks = sheets.filter(({ records }) => records.length).map((sheet) => new Look(sheet, answers));
   if (!looks.length) throw new Faults(...(sheets[0].faults.length ? sheets[0].faults : [faultAt(1, "emptyList")]));
   return looks.reduce((best, look) => isBetter(look.rank(), best.rank()) ? look : best).table();

@@ -29,7 +29,7 @@ function listRead() {
   if (!list.text.trim()) return { articles: [], columns: null, notes: [], question: null };
   if (file?.question) return { articles: [], columns: null, notes, question: encodingQuestion(file) };
   try {
-    const table = tableOf(list, asked), articles = articlesOf(table, asked), { question, look } = table;
+    const table = tableOf(list, asked, MOST_LINES), articles = articlesOf(table, asked), { question, look } = table;
     const asks = question && columnQuestion({ ...question, meaning: "price" }, look);
     return asks ? { articles: [], columns: table, notes, question: asks }
       : { articles, columns: table, notes: [...notes, ...notesOfTable(table, articles)], question: null };

@@ -6,6 +6,9 @@
 // text has.
 const LIMIT = 16777216, WHOLE_LINES = "\x1f", SPREADSHEET = "\x1e";
 
+// The most lines of a list of labels, so that a mistake in it is reported in seconds; and the most cells of a text.
+const MOST_LINES = 20000, MOST_TEXT_CELLS = 1000000;
+
 const MOST_CELL = 1000000, DELIMITERS = [WHOLE_LINES, ";", "\t", ",", "|"];
 
 /**
@@ -51,14 +54,25 @@ const faultAt = (line, key, ...values) => ({ line, fault: { key, values } });
 const tooLarge = () => new Faults(faultAt(1, "tooLarge", LIMIT));
 
 // The list read with each delimiter that it may have: only the one that its first line names, as in `sep=;`; else whole
-// lines, and then each delimiter that occurs in it.
-function sheetsOf({ text, isSheet, faults }) {
-  if (isSheet) return [bookSheet(sheetOf(text, "\t", 1, true), faults)];
-  const told = text.match(/^sep=([^\n])[ \t]*(\r\n|\n|\r|$)/u);
-  const sheets = told ? [sheetOf(text.slice(told[0].length), told[1], 2)]
-    : DELIMITERS.filter((it) => it === WHOLE_LINES || text.includes(it)).map((it) => sheetOf(text, it, 1));
+// lines, and then each delimiter that occurs in it. Those with more lines than `most` drop out.
+function sheetsOf({ text, isSheet, faults }, most) {
+  const told = isSheet ? null : text.match(/^sep=([^\n])[ \t]*(\r\n|\n|\r|$)/u);
+  const signs = isSheet ? [] : ["\n", "\r", ...DELIMITERS.slice(1), ...(told ? [told[1]] : [])];
+  if (signs.some((sign) => countOf(text, sign) > MOST_TEXT_CELLS)) throw new Faults(faultAt(1, "sheetLarge"));
+  const found = isSheet ? [sheetOf(text, "\t", 1, most, true)] : told ? [sheetOf(text.slice(told[0].length), told[1], 2, most)]
+    : DELIMITERS.filter((it) => it === WHOLE_LINES || text.includes(it)).map((it) => sheetOf(text, it, 1, most));
+  const sheets = found.filter((sheet) => sheet.records.length + sheet.faults.length <= most);
+  if (!sheets.length) throw new Faults(faultAt(1, "manyLines", most));
+  if (isSheet) return [bookSheet(sheets[0], faults)];
   if (!sheets.some(({ records, faults }) => records.length || faults.length)) throw new Faults(faultAt(1, "emptyList"));
   return sheets.map((sheet) => withoutDamaged(sheet, text));
+}
+
+// How often a text has a sign.
+function countOf(text, sign) {
+  let count = 0;
+  for (let at = text.indexOf(sign); at >= 0; at = text.indexOf(sign, at + 1)) count++;
+  return count;
 }
 
 // A spreadsheet without the records of rows that have an error.
@@ -85,10 +99,10 @@ function withoutLines(sheet, lines, faults) {
 
 // The records of a text that are not empty, and the lines that are none (RFC 4180, with any line ends). The first line
 // has this number. Of a spreadsheet rows are counted, whatever line ends their cells have. `from` is the line of the
-// text.
-function sheetOf(text, delimiter, first, isSheet = false) {
+// text. It ends behind one more than `most`.
+function sheetOf(text, delimiter, first, most, isSheet = false) {
   const lines = text.match(/[^\r\n]*(?:\r\n|\r|\n)|[^\r\n]+$/g) ?? [], records = [], faults = [], lost = [];
-  for (let next = 0, row = 1; next < lines.length; row++) {
+  for (let next = 0, row = 1; next < lines.length && records.length + faults.length <= most; row++) {
     const from = first + next, line = isSheet ? row : from, { cells, end } = recordAt(lines, next, delimiter);
     if (!cells) {
       faults.push({ ...faultAt(line, "noCsv"), from });

@@ -9,7 +9,7 @@ from typing import Dict, List, Mapping, Optional, Sequence, Set, Tuple
 from . import Refusal
 from ._files import opened_list
 from ._headings import LONGER, MEANINGS, Headings, known, plain
-from ._lists import SPREADSHEET, WHOLE_LINES, Fault, Faults, Record, Sheet
+from ._lists import LIMIT, SPREADSHEET, WHOLE_LINES, Fault, Faults, Record, Sheet
 from ._prices import PriceHeading, price_of, shelf_prices
 from ._remarks import FLAGS, remark_on
 from ._shop import said, sentence_of_lines, told
@@ -67,14 +67,16 @@ class Table:
         return next((record.cells[place] for place in self.places.get(meaning, ()) if place < len(record.cells)), "")
 
 
-def table_of(data: bytes, year: int, columns: Optional[Mapping[str, str]] = None, encoding: str = "") -> Table:
-    """The table of a file's bytes. ``columns`` names columns for meanings: by the heading, or by the number from 1; an
+def table_of(
+    data: bytes, year: int, columns: Optional[Mapping[str, str]] = None, encoding: str = "", most: int = LIMIT
+) -> Table:
+    """The table of a file's bytes, of at most this many lines. ``columns`` names columns for meanings: by the heading, or by the number from 1; an
     empty one says that there is none. The others are found by headings, the column of the numbers also by its cells.
 
     :raises Faults: the file cannot be read or is empty; two columns have one meaning; none has numbers; or none is as
         ``columns`` says.
     """
-    opened = opened_list(data, encoding)
+    opened = opened_list(data, encoding, most)
     looks = [_Look(sheet, year, columns or {}) for sheet in opened.sheets if sheet.records]
     if not looks:
         raise Faults(opened.sheets[0].faults or [Fault(1, said("emptyList"))])

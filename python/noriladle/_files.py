@@ -21,8 +21,8 @@ class Opened(NamedTuple):
     notes: Sequence[str] = ()
 
 
-def opened_list(data: bytes, encoding: str = "") -> Opened:
-    """The list of a file's bytes.
+def opened_list(data: bytes, encoding: str = "", most: int = LIMIT) -> Opened:
+    """The list of a file's bytes, of at most this many lines.
 
     :raises Faults: it is too long, empty, or no list.
     """
@@ -32,6 +32,8 @@ def opened_list(data: bytes, encoding: str = "") -> Opened:
         from ._spreadsheets import opened_book  # Imported only here, since it takes time.
 
         sheet, notes = opened_book(data)
+        if len(sheet.records) > most:
+            raise Faults([Fault(1, said("manyLines", f"{most:,}"))])
         return Opened([sheet], notes)
     if data.startswith(_OLD_SPREADSHEET):
         is_encrypted = "EncryptedPackage".encode("utf-16-le") in data
@@ -41,4 +43,4 @@ def opened_list(data: bytes, encoding: str = "") -> Opened:
             raise Faults([Fault(1, told("takesPicture", said(name)) if name in _PICTURES else said(name))])
     text, note, damaged = decoded(data, encoding)
     faults = [Fault(line, said("notUtf8")) for line in damaged]
-    return Opened([sheet.without(faults) for sheet in sheets_of(text)], [note] if note else [])
+    return Opened([sheet.without(faults) for sheet in sheets_of(text, most)], [note] if note else [])

@@ -2,14 +2,18 @@
 from __future__ import annotations
 
 import csv
-import io
 import re
-from typing import List, NamedTuple, Sequence
+from typing import Iterator, List, NamedTuple, Sequence
 
 from ._shop import said
 
 LIMIT = 16_777_216
 """The most bytes of a list: the limit of ``gs1_hub``'s input."""
+
+MOST_LINES = 20_000
+"""The most lines of a list of labels, so that a mistake in it is reported in seconds."""
+
+_MOST_CELLS = 1_000_000
 
 WHOLE_LINES = "\x1f"
 """The delimiter of a list with one cell a line: a character that no text has."""
@@ -18,6 +22,7 @@ SPREADSHEET = "\x1e"
 """The delimiter of a spreadsheet's file: a character that no text has."""
 
 _MOST_CELL = 1_000_000
+_LINE = re.compile(r"[^\r\n]*(?:\r\n|\r|\n)|[^\r\n]+")
 _DELIMITERS = (WHOLE_LINES, ";", "\t", ",", "|")
 
 
@@ -59,41 +64,53 @@ class Sheet(NamedTuple):
         return Sheet(self.delimiter, records, sorted([*self.faults, *faults]), [*self.lost, *lost]) if faults else self
 
 
-def sheets_of(text: str) -> List[Sheet]:
+def sheets_of(text: str, most: int) -> List[Sheet]:
     """The list read with each delimiter that it may have: only the one that its first line names, as in ``sep=;``; else
     whole lines, and then each delimiter that occurs in it.
 
-    :raises Faults: it is empty.
+    :raises Faults: it is empty, or has more lines than this with each delimiter, or too many cells.
     """
     told = re.match(r"sep=(.)[ \t]*(\r\n|\n|\r|$)", text)
+    if max(map(text.count, ("\n", "\r", told[1] if told else "\n", *_DELIMITERS[1:]))) > _MOST_CELLS:
+        raise Faults([Fault(1, said("sheetLarge"))])
     if told:
-        sheets = [_sheet(text[told.end():], told[1], 2)]
+        found = [_sheet(text[told.end():], told[1], 2, most)]
     else:
-        sheets = [_sheet(text, it, 1) for it in _DELIMITERS if it == WHOLE_LINES or it in text]
+        found = [_sheet(text, it, 1, most) for it in _DELIMITERS if it == WHOLE_LINES or it in text]
+    sheets = [sheet for sheet in found if len(sheet.records) + len(sheet.faults) <= most]
+    if not sheets:
+        raise Faults([Fault(1, said("manyLines", f"{most:,}"))])
     if not any(sheet.records or sheet.faults for sheet in sheets):
         raise Faults([Fault(1, said("emptyList"))])
     return sheets
 
 
-def _sheet(text: str, delimiter: str, first: int) -> Sheet:
-    """The records of a text that are not empty; its first line has this number."""
+def _sheet(text: str, delimiter: str, first: int, most: int) -> Sheet:
+    """The records of a text that are not empty, up to one more than this many; its first line has this number."""
     csv.field_size_limit(_MOST_CELL)
-    source = io.StringIO(text, newline="")
-    reader = csv.reader(source, delimiter=delimiter, strict=True)
     records: List[Record] = []
     faults: List[Fault] = []
     lost: List[Record] = []
-    line, at = first, 0
-    while True:
+    line, at, end = first, 0, 0
+
+    def lines() -> Iterator[str]:
+        nonlocal end
+        for found in _LINE.finditer(text):
+            end = found.end()
+            yield found[0]
+
+    reader = csv.reader(lines(), delimiter=delimiter, strict=True)
+    while len(records) + len(faults) <= most:
         try:
             cells = next(reader)
         except StopIteration:
-            return Sheet(delimiter, records, faults, lost)
+            break
         except csv.Error:
             faults.append(Fault(line, said("noCsv")))
-            lost.append(Record(line, re.split(f"[{re.escape(delimiter)}\r\n\"]", text[at:source.tell()])))
+            lost.append(Record(line, re.findall(f"[^{re.escape(delimiter)}\r\n\"]+", text[at:end])))
             cells = []
-        at = source.tell()
+        at = end
         if "".join(cells).strip():
             records.append(Record(line, cells))
         line = first + reader.line_num
+    return Sheet(delimiter, records, faults, lost)

@@ -57,8 +57,11 @@ def _in_column(place: int, heading: str, records: Iterable[Record]) -> Iterator[
     without tax."""
     words = folded(heading)
     others = _NETS | _NO if has_tax(words) else _NETS
-    cells = [(record.line, " ".join(record.cells[place].split())) for record in records if place < len(record.cells)]
-    filled = [(line, cell) for line, cell in cells if cell]
+    cells = [(record.line, record.cells[place]) for record in records if place < len(record.cells)]
+    plain = {cell: " ".join(cell.split()) for cell in {cell for _, cell in cells}}
+    if not (_UNITS.search(words) or _CURRENCIES.search(words) or any(cell.lower() in others for cell in plain.values())):
+        return  # Most columns say nothing, and this is faster.
+    filled = [(line, plain[cell]) for line, cell in cells if plain[cell]]
     if _UNITS.search(words):
         is_size = bool(_SIZES.search(words))
         yield from (Remark(line, f"{heading}: {cell}") for line, cell in filled if _is_other(cell, is_size))

@@ -15,13 +15,13 @@ def checked(text):
     return text + str(-sum(int(digit) * (3, 1)[at % 2] for at, digit in enumerate(reversed(text))) % 10)
 
 
-def measure(name, words, seconds, megabytes=0):
+def measure(name, words, seconds, megabytes=0, status=0):
     """Runs noriladle three times in a process of its own, compares the best run with the limits, and returns its seconds."""
     best = (1e9, 1e9)
     for _ in range(3):
         done = subprocess.run([sys.executable, __file__, "", WORK, "run", *words], stdout=subprocess.DEVNULL, stderr=subprocess.PIPE)
         took, most = done.stderr.decode().split()[-2:]
-        if done.returncode:
+        if done.returncode != status:
             FAULTS.append(f"{name}: status {done.returncode}")
         best = min(best, (float(took), float(most)))
     is_wrong = best[0] > seconds or megabytes and best[1] > megabytes
@@ -48,8 +48,16 @@ def main():
     seconds = measure("labels of 5,000 lines", ["labels", os.path.join(WORK, "5000.csv"), "-o", pdf], 7.5)
     measure("the same lines as .xlsx", ["labels", os.path.join(WORK, "5000.xlsx"), "-o", pdf], round(2.5 * seconds, 2))
     measure("check of 10,000 lines", ["check", os.path.join(WORK, "10000.csv")], 1)
+    refused = {"100,000 lines": "ean;name;price\n" + "4012345010008;x;1,00\n" * 100_000, "too many cells": ";" * 16_000_000,
+               "empty lines": "\n" * 16_000_000, "quotation marks alone": '"' * 16_000_000, "one long cell": "ean;name\n" + "x" * 16_000_000,
+               "wrong numbers": "ean;name;price\n" + "".join(f"{number:013};x;1,00\n" for number in range(10**12, 10**12 + 5_000))}
+    for name, text in refused.items():
+        path = os.path.join(WORK, "refused.csv")
+        with open(path, "w", encoding="utf-8") as file:
+            file.write(text)
+        measure(f"{name}, refused", ["labels", path, "-o", pdf], 2, 200, status=1)
     print("\n".join(FAULTS), file=sys.stderr, end="\n" if FAULTS else "")
-    print(f"6 limits of time and memory, {len(FAULTS)} broken")
+    print(f"{6 + len(refused)} limits of time and memory, {len(FAULTS)} broken")
     sys.exit(1 if FAULTS else 0)
 
 

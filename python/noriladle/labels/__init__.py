@@ -18,7 +18,7 @@ from typing import TYPE_CHECKING, Callable, Dict, Iterator, List, Mapping, Named
 
 from .. import Refusal, find
 from .._columns import Table, table_of
-from .._lists import Fault, Faults
+from .._lists import MOST_LINES, Fault, Faults
 from .._shop import said, sentence_of_lines, told, translated
 from .._texts import remedy_of
 from ._articles import Article, articles_of
@@ -168,10 +168,10 @@ def read_list(
 
     :raises Faults: nobody can say what its columns are, or which of them is the price on the shelf.
     """
-    table = table_of(data, year, columns, encoding)
-    articles, faults = articles_of(table, year, currency, is_free)
+    table = table_of(data, year, columns, encoding, MOST_LINES)
     if table.question:
-        raise Faults(sorted([table.question, *faults]))
+        raise Faults(sorted([table.question, *table.faults]))
+    articles, faults = articles_of(table, year, currency, is_free)
     return PriceList(articles, faults, _notes(table, articles))
 
 

@@ -216,11 +216,10 @@ def _elements(text: str, answer: Answer) -> str:
 
 def _kind(name: str) -> Optional[Kind]:
     """The kind of a name, such as ``ean13`` or ``EAN-13``; without a name the usual one."""
-    kinds = {kind.name: kind for kind in Kind}
     plain = re.sub(r"[\s-]", "", name).upper()
-    if plain and plain not in kinds:
-        raise ValueError(said("noKind", short(name), ", ".join(kinds).lower()))
-    return kinds.get(plain)
+    if plain and plain not in Kind.__members__:
+        raise ValueError(said("noKind", short(name), ", ".join(Kind.__members__).lower()))
+    return Kind.__members__.get(plain)
 
 
 def _copies(cell: str) -> int:
@@ -232,6 +231,8 @@ def _copies(cell: str) -> int:
 
 def _plain(cell: str) -> str:
     """A cell in composed characters, with each white space as one blank. Its line ends stay."""
+    if cell.isascii() and cell.isprintable() and "  " not in cell:
+        return cell.strip()  # Most cells are, and this is faster.
     blanks = re.sub(r"[^\S\n\xa0]+", " ", unicodedata.normalize("NFC", cell).replace("\r", "\n"))
     return re.sub(r"\s*\n\s*", "\n", blanks).strip()
 
