@@ -161,8 +161,8 @@ function showFaults(faults) {
   at("free-field").hidden = !asked.isFree && !faults.some(({ fault }) => fault.key === "zeroPrice");
 }
 
-// Whether exactly one number is meant, and it can be put in the place of what is typed.
-const isClear = ({ fault }) => fault.isClear && fault.fixes.length === 1;
+// Whether a number is clearly meant, the first one that can be put in the place of what is typed.
+const isClear = ({ fault }) => !!fault.isClear;
 
 function faultItem({ line, from = line, typed, name, fault }) {
   const shown = shortText(typed), use = (fault.fixes ?? []).map((fix) =>
@@ -209,7 +209,7 @@ function mend(one) {
   makeAgain();
 }
 
-// Puts all numbers right of which exactly one is possible. From the end, since what is before a line keeps its place.
+// Puts all numbers right that are clear, as `noriladle check --fix` does. From the end, since what is before a line keeps its place.
 function mendAll() {
   const clear = shop.made.faults.filter(isClear)
     .map(({ line, from = line, typed, fault }) => ({ from, typed, fix: fault.fixes[0] }));

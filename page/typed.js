@@ -34,9 +34,9 @@ function looksRight(cell) {
 function readText(typed) {
   const text = stripped(typed);
   if (text[0] in BRACKETED) {
-    const pairs = bracketedPairs(text);
+    const pairs = bracketedPairs(text), number = pairs ? "" : meantNumber(text);
     return pairs ? scanned(`^${pairs.map(({ ai, value }) => ai + value).join("^")}`)
-      : { fault: { key: text[0] === "(" ? "parentheses" : "brackets" } };
+      : { fault: { key: text[0] === "(" ? "parentheses" : "brackets", fixes: number ? [number] : [], isClear: !!number } };
   }
   if (text[0] === "]" || LINK.test(text)) return scanned(text);
   if (isElements(text)) return scanned(/^[\^\x1d]/.test(text) ? text : `^${text}`);

@@ -52,6 +52,7 @@ EDITS = [
     ("mending.js", "others.length === Number(power)", "true"),
     ("mending.js", "(10 - at)", "(9 - at)"),
     ("mending.js", "[10, 11].includes(joined.length)", "[11].includes(joined.length)"),
+    ("typed.js", "isClear: !!number } };", "isClear: false } };"),
     ("mending.js", "[7, 11, 12]", "[7, 11]"),
     ("typed.js", "/^0[0-9]{7}$/", "/^0[0-9]{8}$/"),
     ("typed.js", "at += ai.length + value.length + 1;", "at += ai.length + value.length;"),

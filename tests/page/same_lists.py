@@ -18,8 +18,11 @@ ROOT = os.path.dirname(os.path.dirname(os.path.dirname(os.path.abspath(__file__)
 LISTS = os.path.join(ROOT, "tests", "labels")
 sys.path[:0] = [os.path.join(ROOT, "python"), LISTS]
 from damaged_lists import damaged
+from noriladle import Refusal
 from noriladle._columns import table_of
+from noriladle._fixing import fixed
 from noriladle._lists import Faults
+from noriladle._texts import Unreadable, read_text
 from noriladle.labels._articles import articles_of
 
 NUMBERS = ["4012345010008", "4012345010374", "96385074", "012345000065", "09501101530003", "978-3-16-148410-0", "4012345010375", "4,01235E+12",
@@ -90,17 +93,28 @@ def of_shops():
 
 
 def by_python(data):
-    """The command's answer in the page's form, without its options."""
-    unused, passed, opened = [], [], []
+    """The command's answer in the page's form, without its options; and what `check --fix` corrects."""
+    fixes, unused, passed, opened = [], [], [], []
     try:
         table = table_of(data, 2026)
         articles, faults = articles_of(table, 2026)
+        doubled = {record.line for record in table.records if table.cell(record, "gs1").strip()}
+        fixes = [[it.line, it.after] for it in fixed(table, 2026)[1] if is_unreadable(it.before) and it.line not in doubled]
         unused, passed, opened = list(table.unused), list(table.passed), list(table.opened)
         faults = sorted([*([table.question] if table.question else []), *faults])
     except Faults as error:
         articles, faults = [], sorted(error.faults)
     told = [[it.line, it.kind.name.lower(), it.text, it.name, it.price, list(it.lines), it.copies] for it in articles]
-    return {"articles": told, "faults": [[it.line, plainly(it.said)] for it in faults], "unused": unused, "passed": passed, "opened": opened}
+    return {"articles": told, "faults": [[it.line, plainly(it.said)] for it in faults], "fixes": fixes, "unused": unused, "passed": passed, "opened": opened}
+
+
+def is_unreadable(text):
+    """Whether the page has advice for a cell: it is no number, and no element string with separators."""
+    try:
+        read_text(text, 2026)
+    except (Refusal, Unreadable):
+        return "\x1d" not in text
+    return False
 
 
 def plainly(said):
