@@ -267,8 +267,10 @@ def test_german_where_the_machine_speaks_it(folder, capsys, monkeypatch):
     monkeypatch.setenv("LC_ALL", "de_AT.UTF-8")
     save("a.csv", PRICES.replace("96385074", "96385075"))
     assert told(["labels", "a.csv", "-o", "a.pdf"], capsys)[2] == [
-        "a.csv:1: „Preis“, „UVP“ können jeweils der Preis am Regal sein: bitte auswählen, etwa mit --column price='Preis' oder --no-price",
-        "a.csv:3: 96385075: refused 3 CheckDigit: eine Ziffer ist falsch; falls es die letzte ist, ist 96385074 richtig"]
+        "a.csv:1: „Preis“, „UVP“ können jeweils der Preis am Regal sein: bitte auswählen, etwa mit --column price='Preis' oder --no-price"]
+    assert told(["labels", "a.csv", "-o", "a.pdf", "--no-price"], capsys)[2][-2:] == [
+        "a.csv:3: 96385075: refused 3 CheckDigit: eine Ziffer ist falsch; falls es die letzte ist, ist 96385074 richtig",
+        "a.csv: 1 Zeile abgelehnt, darum ist nichts geschrieben"]
     assert told(["labels", "a.csv", "-o", "a.pdf", "--no-price", "--leave-out"], capsys)[2][-2:] == [
         "a.csv: 1 Zeile weggelassen", "1 Etikett auf 1 Seite in a.pdf"]
     _, out, err = told(["check", "a.csv"], capsys)

@@ -19,7 +19,7 @@ EDITS = [
     ("lists.js", "cells.some(({ length }) => length > MOST_CELL) ? null : cells", "cells.slice(0, 3)"),
     ("lists.js", "`${cell}\"`, \"quoted\"", "cell, \"quoted\""),
     ("lists.js", "else if (state === \"quote\" && !isEnd) return { cells: null, end: next + 1 };", ""),
-    ("lists.js", "sheetOf(text.slice(told[0].length), told[1], 2)", "sheetOf(text.slice(told[0].length), told[1], 1)"),
+    ("lists.js", "sheetOf(text.slice(told[0].length), told[1], 2, most)", "sheetOf(text.slice(told[0].length), told[1], 1, most)"),
     ("lists.js", "\",\", \"|\"]", "\",\"]"),
     ("lists.js", "if (!text.includes(\"\\ufffd\")) return sheet;", "return sheet;"),
     ("encodings.js", "hasMark(bytes) ? bytes[0] === 0xff : bytes[1] === 0", "true"),
