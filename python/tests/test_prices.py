@@ -1,4 +1,6 @@
 """Which column is the price on the shelf, and how its cells are printed. More headings and lists: tests/labels/run."""
+import re
+
 import pytest
 
 from noriladle import _shop
@@ -181,3 +183,18 @@ def test_a_language_has_its_decimal_sign():
         assert _shop.said("noLabels") == "the list has no labels to print"
     finally:
         _shop.speak("en")
+
+
+@pytest.mark.parametrize("text, told", [
+    (f"EAN;Unit Cost;Unit Price\n{OATS};1,20;2,90\n", "as in --column price='Unit Price'"),
+    (f"EAN;Valuation Rate;Selling Rate\n{OATS};1,20;2,90\n", "'Valuation Rate' (purchase price), 'Selling Rate': say"),
+    ("EAN;Preis\n" + f"{OATS};2,90\n" * 20_000, "more than 20,000 lines"), ("EAN;Preis\n" + ";" * 1_000_000, "too large"),
+])
+def test_questions_and_limits(text, told):
+    with pytest.raises(Faults, match=re.escape(told)):
+        read_list(text.encode(), 2026)
+
+
+def test_amounts_of_three_decimals_say_nothing_of_tax():
+    table = table_of(f"EAN;Preis;Gesamt\n{OATS};1.000;1.200\n{RYE};3.10;3.10\n".encode(), 2026)
+    assert table.question is None
