@@ -16,7 +16,7 @@ from ._health import Metrics
 from ._journal import Scan
 from ._log import Log
 from ._rights import Rights, all_rights, name_of_token, unix_names, unix_peer
-from ._scans import Listener, ScanLane, Scans, is_series, text_of
+from ._scans import LEAST_TURN, Listener, ScanLane, Scans, is_series, text_of
 from .live import Hub, HubEnded, Lane
 
 CUT = 65_536 + 1
@@ -182,7 +182,7 @@ class Scanner:
         self._listener.tell(f"{number} {time.time():.3f} next {lane.series}\n" if form > 1 else f"{number} next\n")
 
     async def take(self, lines: List[bytes]) -> None:
-        turn = self._scans.turn()
+        turn = LEAST_TURN
         for count, line in enumerate(lines, 1):
             if count % LINES == 0:
                 await asyncio.sleep(0)
