@@ -1,4 +1,5 @@
 """Certificates of a gateway that are renewed: whatever the files have meanwhile, every client that connects is answered. Needs openssl."""
+import os
 import shutil
 import signal
 import ssl
@@ -116,6 +117,20 @@ def test_connections_stay_and_no_handshake_fails_while_it_is_renewed(renewed, au
         time.sleep(0.3)
         assert renewed.name() == "third"
         assert stays.ask(ROW) == f"0 {READ}\n"
+
+
+def test_a_renewal_that_comes_slowly(renewed, authority, tmp_path):
+    """Its key lies on a disk that hangs: clients are answered meanwhile, with the certificate that is there."""
+    key, file = pair(authority, tmp_path / "second", "second")
+    renewed.put(key, file)
+    renewed.key.unlink()
+    os.mkfifo(renewed.key)
+    renewed.reload()
+    assert [renewed.name() for _ in range(3)] == ["first"] * 3
+    renewed.key.write_bytes(key.read_bytes())
+    until = time.monotonic() + 20
+    while renewed.name() != "second":
+        assert time.monotonic() < until
 
 
 @pytest.mark.parametrize("days, word", [("-1", "expired"), ("10", "expires")])

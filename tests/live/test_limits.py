@@ -16,6 +16,7 @@ import websockets
 
 from gateway_and_scanners import NORILADLE, ROW, Client, Gateway, Serial
 from noriladle._door import who
+from noriladle._gateway import CUT, PAUSE
 from program_and_rows import READ
 from test_gateway import page
 from test_rights import Authority, open_folder, rights  # noqa: F401 (open_folder is a fixture)
@@ -311,6 +312,42 @@ def test_a_scanner_that_floods(tmp_path, count):
         print(f"\n{count} floods: " + "; ".join(f"{when} median {statistics.median(its):.1f} ms, longest {max(its):.1f} ms" for when, its in times.items()))
         # On a busy machine a lane that is alone waits too.
         assert max(times["beside"]) < 100 + 2 * max(times["alone"])
+
+
+def test_programs_share_the_rows_under_way(tmp_path, monkeypatch):
+    """However many there are, the hub has few rows of theirs, so a scan waits for few. This hub takes all and answers nothing."""
+    taken, hub = tmp_path / "taken", tmp_path / "gs1_hub"
+    hub.write_text(f"#!/bin/sh\nexec cat > {taken}\n")
+    hub.chmod(0o755)
+    monkeypatch.setenv("GS1_HUB", str(hub))
+    with Gateway(tmp_path) as gateway, contextlib.ExitStack() as programs:
+        wanted, until = 0, time.monotonic() + 20
+        for count in range(1, 17):
+            programs.enter_context(gateway.connect()).send(b"1 1\n" * 500)
+            wanted += max(4, 64 // count)
+            while taken.read_bytes().count(b",1 1\n") < wanted:
+                assert time.monotonic() < until
+                time.sleep(0.01)
+        time.sleep(0.3)
+        assert taken.read_bytes().count(b",1 1\n") == wanted < 256
+
+
+def test_lines_without_an_end_take_turns(tmp_path):
+    """All that send them together are read no faster than one of them."""
+    with Gateway(tmp_path) as gateway, contextlib.ExitStack() as clients:
+        held = [clients.enter_context(gateway.unix_client()).socket for _ in range(20)]
+        for its in held:
+            its.setblocking(False)
+        sent, begin = 0, time.monotonic()
+        while time.monotonic() < begin + 3:
+            for its in held:
+                with contextlib.suppress(BlockingIOError):
+                    sent += its.send(b"1 " * 100_000)
+            time.sleep(0.001)
+        took = time.monotonic() - begin
+        room = sum(its.getsockopt(socket.SOL_SOCKET, socket.SO_SNDBUF) for its in held)
+        print(f"\n{sent / 1e6:.0f} MB in {took:.1f} s, of which {room / 1e6:.0f} MB may wait")
+        assert sent - 2 * room < (took / PAUSE + 2 * len(held)) * CUT
 
 
 def flood(path, count):
