@@ -119,14 +119,14 @@ class Journal:
             self._wakes.notify()
 
     async def put_all(self, scans: List[Scan]) -> str:
-        """Writes records. Returns why they are not on the disk, or nothing."""
+        """Writes records together, all or none. Returns why they are not on the disk, or nothing."""
+        if not scans:
+            return ""
         done: asyncio.Future[str] = self._loop.create_future()
-        for scan in scans[:-1]:
-            self.put(scan)
-        if scans:
+        with self._wakes:
+            self._waiting += [(scan, None) for scan in scans[:-1]]
             self.put(scans[-1], lambda why: None if done.done() else done.set_result(why))
-            return await done
-        return ""
+        return await done
 
     def close(self) -> None:
         """Writes what waits, and ends."""
@@ -269,7 +269,7 @@ def _end_of(folder: Path) -> Tuple[int, str]:
         checked = Checked(file)
         for _ in checked:
             pass
-        if checked.header:
+        if checked.header or checked.faults:
             # Behind a line that is wrong the numbers begin above whatever may stand there.
             return checked.next + (file.stat().st_size if checked.faults else 0), checked.before
     return 1, _START
@@ -283,7 +283,7 @@ class Checked:
         self.faults: List[str] = []
         self.header: Optional[Tuple[int, str]] = None
         """The number of the first record, and the sum before it."""
-        self.next, self.before = 0, ""
+        self.next, self.before = int(path.stem.partition("-")[2]), _START
         self.is_torn = False
         """Whether its last line has no end: the gateway died while it wrote, and sent no answer of it."""
 

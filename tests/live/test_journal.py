@@ -336,19 +336,24 @@ def test_a_journal_that_was_changed(tmp_path, what, wanted):
         assert scan_all(client, "till-1", [EAN]) == [f"0 {READ}\n"]
 
 
-def test_a_last_file_that_was_changed(tmp_path):
-    """The next gateway begins above every number that may stand behind the changed line, so no number comes twice."""
+@pytest.mark.parametrize("old, new, kept, wanted", [
+    ("\t2\t]E0", "\t2\t]E1", [1, 2], ":4: this record was changed, or one before it is missing"),
+    ("journal 1", "journal 2", [], ":1: this is no beginning of a file of the journal"),
+])
+def test_a_last_file_that_was_changed(tmp_path, old, new, kept, wanted):
+    """The next gateway keeps it, and begins above every number that may stand behind the changed line, so no number comes twice."""
     folder = tmp_path / "journal"
     for count in (6, 1):
         with Gateway(tmp_path, "--journal", str(folder), port=False) as gateway, gateway.unix_client() as client:
             assert len(scan_all(client, "till-1", [EAN] * count)) == count
         if count > 1:
             file, = folder.glob("scans-*.tsv")
-            file.write_text(file.read_text().replace("\t2\t]E0", "\t2\t]E1"))
+            changed = file.read_text().replace(old, new)
+            file.write_text(changed)
     found = Check(folder)
-    records = list(found)
-    assert [record.number for record in records[:2]] == [1, 2] and len(records) == 3 and records[2].number > 6
-    assert len(found.faults) == 1 and found.faults[0].endswith(":4: this record was changed, or one before it is missing")
+    *records, last = found
+    assert [record.number for record in records] == kept and last.number > 6 and file.read_text() == changed
+    assert len(found.faults) == 1 and found.faults[0].endswith(wanted)
 
 
 def test_a_scan_that_is_there_twice(tmp_path):
@@ -470,5 +475,26 @@ def test_an_answer_waits_for_the_disk_and_shares_its_write(tmp_path, monkeypatch
         assert [record.scan for record in records if record.lane != "-"] == [*map(str, range(500)), "501", "502"]
         assert [record.said for record in records if record.lane == "-"] == ["gap: 1 scans have no record"]
         assert not found.faults and len(found.files) == 2
+
+    asyncio.run(asyncio.wait_for(test(), 30))
+
+
+def test_rows_that_come_together_are_written_together(tmp_path, monkeypatch):
+    """All or none of them, though the disk has room again while they are put."""
+    calls = []
+
+    def sync(descriptor):
+        calls.append(descriptor)
+        if len(calls) == 2:  # The first has the beginning of the file.
+            raise OSError(28, "No space left on device")
+
+    async def test():
+        monkeypatch.setattr(journal_module.os, "fdatasync", sync)
+        journal = Journal(str(tmp_path / "journal"), 1 << 30, False, Log(), Metrics())
+        rows = [Scan(time.time(), "-", "-", str(number), b"1 1", "refused 19 Blank") for number in range(20_000)]
+        assert await journal.put_all(rows) == "the journal cannot be written: No space left on device"
+        assert await journal.put_all(rows[:2]) == "" == await journal.put_all([])
+        journal.close()
+        assert [record.scan for record in Check(tmp_path / "journal")] == ["-", "0", "1"]
 
     asyncio.run(asyncio.wait_for(test(), 30))
