@@ -31,12 +31,13 @@ class _Load(argparse.Action):
         option: Optional[str] = None,
     ) -> None:
         path = str(value)
-        for name, loaded in load(parser, path).items():
+        found = load(parser, path)
+        for name, loaded in found.items():
             if getattr(words, name, None) == parser.get_default(name):
                 setattr(words, name, loaded)
         setattr(words, self.dest, path)
-        # What SIGHUP reads again.
-        words.load_again = lambda: load(parser, path)
+        # What SIGHUP reads again, and what would hold without the command line.
+        words.load_again, words.loaded = lambda: load(parser, path), {**{it.dest: it.default for it in parser._actions}, **found}
 
 
 def add_config(parser: argparse.ArgumentParser) -> None:

@@ -337,16 +337,17 @@ def test_a_file_of_options_that_is_wrong(tmp_path, text, wanted):
 
 
 def test_a_file_of_options(tmp_path):
-    """What stands in it holds unless a word says otherwise; a part of it can be changed at work."""
+    """What stands in it holds unless a word says otherwise, at each reload too; a part of it can be changed at work."""
     file = tmp_path / "gateway.toml"
-    file.write_text("lanes = 2\nidle = 30\nelements = true\nconnections = 5\n")
-    with Gateway(tmp_path, "--lanes", "1", "--config", str(file)) as gateway, gateway.connect() as client:
-        assert client.ask(ROW) == "0 ]E0 01=09501101530003\n"
-        with gateway.connect() as late:
-            assert late.ask(ROW) == "closed: all 1 lanes are taken\n"
-        file.write_text("idle = 0.5\nconnections = 5\nelements = true\n")
-        gateway.process.send_signal(signal.SIGHUP)
-        assert client.lines.read() == b"closed: nothing came or was taken for 0.5 seconds\n"
+    file.write_text("lanes = 2\nidle = 30\nelements = true\nconnections = 1\n")
+    with Gateway(tmp_path, "--lanes", "1", "--connections", "5", "--config", str(file)) as gateway:
+        for idle in (0.5, 0.3):
+            with gateway.connect() as client, gateway.connect() as late:
+                assert client.ask(ROW) == "0 ]E0 01=09501101530003\n"
+                assert late.ask(ROW) == "closed: all 1 lanes are taken\n"
+                file.write_text(f"lanes = 2\nidle = {idle}\nelements = true\nconnections = 1\n")
+                gateway.process.send_signal(signal.SIGHUP)
+                assert client.lines.read() == f"closed: nothing came or was taken for {idle} seconds\n".encode()
 
 
 def test_a_file_that_is_wrong_changes_nothing_at_work(tmp_path):

@@ -32,7 +32,7 @@ import resource
 import signal
 import socket
 import stat
-from typing import Any, Coroutine, Iterator, List, Optional
+from typing import Any, Coroutine, Iterator, List, Optional, Set
 
 from .. import _health, _service
 from .._door import Door, Places
@@ -290,13 +290,14 @@ def _named(name: str, server: Any) -> Any:
 def _load_again_when_told(gateway: Gateway, words: argparse.Namespace) -> Coroutine[Any, Any, None]:
     """Reads the option file and the certificate again at each SIGHUP."""
     is_right, is_told = True, asyncio.Event()
+    given = {name for name, value in words.loaded.items() if getattr(words, name, value) != value}
 
     async def load_again() -> None:
         nonlocal is_right
         while await is_told.wait():
             is_told.clear()
             notify("RELOADING=1")
-            is_right = await _load_again(gateway, words)
+            is_right = await _load_again(gateway, words, given)
             notify("READY=1")
 
     asyncio.get_running_loop().add_signal_handler(signal.SIGHUP, is_told.set)
@@ -305,11 +306,14 @@ def _load_again_when_told(gateway: Gateway, words: argparse.Namespace) -> Corout
     return load_again()
 
 
-async def _load_again(gateway: Gateway, words: argparse.Namespace) -> bool:
-    """Applies what it can of the option file while the gateway runs. Returns whether nothing was refused."""
+async def _load_again(gateway: Gateway, words: argparse.Namespace, given: Set[str]) -> bool:
+    """Applies what it can of the option file while the gateway runs, except for the options that the command line has given.
+    Returns whether nothing was refused."""
     faults: List[str] = []
     try:
         for name, value in words.load_again().items():
+            if name in given:
+                continue
             if name in _AT_WORK:
                 setattr(words, name, value)
             elif getattr(words, name) != value:
