@@ -85,7 +85,10 @@ held = []
 for _ in range(int(sys.argv[2])):
     its = socket.socket(socket.AF_UNIX)
     its.connect(sys.argv[1])
-    its.sendall(sys.argv[3].encode())
+    try:
+        its.sendall(sys.argv[3].encode())
+    except BrokenPipeError:
+        pass  # It had no place.
     held.append(its)
 print("held", flush=True)
 sys.stdin.read()
