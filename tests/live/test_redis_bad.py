@@ -101,7 +101,7 @@ def test_users_write_what_is_theirs():
     told = locked(cluster, "3")
     cluster.more = f"aclfile {cluster.root}/users.acl\n"
     assert [line.split()[1] for line in told.splitlines()] == ["default", "admin", "replica", "sentinel", "worker", "till.3"]
-    assert told.startswith("user default off\n")
+    assert told.startswith("user default off ")
     real_ask = ask
     cluster.ask = lambda port, *words: real_ask(port, "--no-auth-warning", "--user", "admin", "--pass", "open", *words)
     with cluster:
@@ -126,14 +126,21 @@ def test_users_write_what_is_theirs():
             await till.close()
             await worker.close()
 
+        def lengths():
+            """How many entries of rows and of answers there are."""
+            return [cluster.ask(cluster.holder(ROWS), "XLEN", it) for it in (ROWS, ANSWERS)]
+
         notes = []
         asyncio.run(test())
+        before = lengths()
+        assert before[0] == "0" != before[1]
         for port in cluster.ports:
             assert ask(port, "PING") == "NOAUTH Authentication required."
             cluster.kill(port)
             cluster.start(port)
             assert ask(port, "PING") == "NOAUTH Authentication required."
         cluster.wait()
+        assert lengths() == before
         asyncio.run(test())
         assert notes == []
 

@@ -26,7 +26,7 @@ from ..live import Hub, HubEnded
 from ..streams import Shop, Worker, answers, rows
 from . import REFUSED, RIGHT, WrongWords, add_ais, add_year
 
-_RIGHTS = """user default off
+_RIGHTS = """user default off ~* &* +@all
 user admin on #HASH ~* &* +@all
 user replica on #HASH +psync +replconf +ping
 user sentinel on #HASH &* +multi +slaveof +ping +exec +subscribe +config|rewrite +role +publish +info +client|setname +client|kill +script|kill
