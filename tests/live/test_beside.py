@@ -1,7 +1,7 @@
 """A healthy lane beside each fault of a shop: a till waits for a scan for at most 100 ms, however others break, sleep, flood or take places.
 
 At the same moments another gateway, which has no fault, answers scans too: what these wait is the machine's, and is allowed beside the 100 ms. So
-is the time for which a gateway was ready to run and the machine ran others, as the kernel counts it.
+is the time for which the gateway, its hub or this test was ready to run and the machine ran others, or was not there itself, as the kernel counts it.
 The hub itself, and the disk of a journal that stops the shop, are of all lanes; so is power. Needs openssl; another machine needs root."""
 import contextlib
 import itertools
@@ -33,6 +33,7 @@ LIMIT = 450
 SECONDS = 4.0
 MOST = 0.1
 NUMBERS = itertools.count()
+TICK = os.sysconf("SC_CLK_TCK")
 
 
 class Lane:
@@ -48,18 +49,21 @@ class Lane:
         assert self._till.line() == "0 next\n"
         self.name = name
         gateway, _, _ = struct.unpack("3i", self._till.socket.getsockopt(socket.SOL_SOCKET, socket.SO_PEERCRED, 12))
-        self._counts = Path(f"/proc/{gateway}/task/{gateway}/schedstat")
+        hub = int(Path(f"/proc/{gateway}/task/{gateway}/children").read_text().split()[0])
+        self._counts = [Path(f"/proc/{it}/schedstat") for it in (f"{gateway}/task/{gateway}", f"{hub}/task/{hub}", f"self/task/{threading.get_native_id()}")]
 
     def _held_up(self):
-        """For how many seconds the gateway was ready to run, and did not."""
-        return int(self._counts.read_text().split()[1]) / 1e9
+        """For how many seconds the gateway, its hub and this thread were ready to run, and did not; and each processor was not there."""
+        stolen = [int(line.split()[8]) / TICK for line in Path("/proc/stat").read_text().splitlines() if line.startswith("cpu") and line[3] != " "]
+        return sum(int(it.read_text().split()[1]) / 1e9 for it in self._counts), stolen
 
     def scan(self):
-        before, begin = self._held_up(), time.perf_counter()
+        (ready, stolen), begin = self._held_up(), time.perf_counter()
         self._scanner.send(b"%d %s\n" % (self._number, EAN))
         assert self._till.line() == f"{self._number} {READ}\n" == self._scanner.line()
         self.all.append(time.perf_counter() - begin)
-        self.times.append(max(0.0, self.all[-1] - (self._held_up() - before)))
+        ready_now, stolen_now = self._held_up()
+        self.times.append(max(0.0, self.all[-1] - (ready_now - ready) - max(now - its for now, its in zip(stolen_now, stolen))))
         self._number += 1
 
 
