@@ -353,7 +353,7 @@ class Till:
             self._passed.append(self._place)
             of = _fields(words)
             begin = of.get("n", "")[:20]
-            if of.get("s") == self.series and begin.isdecimal():
+            if of.get("s") == self.series and begin.isdecimal() and int(begin) + BATCH > self.number:
                 for n, line in enumerate(of.get("a", "").split("\n"), int(begin)):
                     self._accept(n, *line.partition(" ")[::2])
         if len(self._passed) >= 128:
@@ -375,6 +375,7 @@ class Till:
         first = self._sent[0] if self._sent else "+"
         there = await self.shop.ask(self._rows, "XRANGE", self._rows, first, first)
         self._place = "0-0"
+        self._passed.clear()
         while await self._read():
             pass
         self._looked = time.monotonic()
