@@ -224,12 +224,18 @@ class _Shard:
             return
         texts = [[text[:CUT] for text in of.get("t", "").split("\n", BATCH)[:BATCH]] for _, _, of in entries]
         said = iter(await self._of.answer([text for some in texts for text in some]))
-        commands: List[List[Word]] = []
+        # The answers to entries that follow each other in a series share one.
+        told: List[Tuple[List[Word], List[str]]] = []
         names: DefaultDict[str, List[str]] = defaultdict(list)
+        follows: Optional[Tuple[str, str, str]] = None
         for (lane, name, of), some in zip(entries, texts):
-            lines = "\n".join(f"{mark(text)} {answer}" for text, answer in zip(some, said))
-            commands.append(["XADD", _answers_of(lane), "*", "s", of.get("s", "")[:40], "n", of.get("n", "")[:20], "a", lines])
+            series, n = of.get("s", "")[:40], of.get("n", "")[:20]
+            if follows != (lane, series, n) or len(told[-1][1]) + len(some) > BATCH:
+                told.append((["XADD", _answers_of(lane), "*", "s", series, "n", n, "a"], []))
+            told[-1][1].extend(f"{mark(text)} {answer}" for text, answer in zip(some, said))
+            follows = (lane, series, str(int(n) + len(some))) if n.isdecimal() else None
             names[lane].append(name)
+        commands: List[List[Word]] = [[*words, "\n".join(lines)] for words, lines in told]
         for lane, done in names.items():
             commands += [["XACK", lane, GROUP, *done], ["XDEL", lane, *done]]
         replies = await self._shop.ask_all(lane, [["MULTI"], *commands, ["EXEC"]])
@@ -302,12 +308,13 @@ class Till:
                 await self.shop.rest(fault)
             if self.number not in self._got:
                 self._wait()
+                continue
             while self.number in self._got:
                 self._kept.popleft()
                 self._sent.popleft()
                 self.number += 1
                 yield self.number - 1, self._got.pop(self.number - 1)
-                self._begin()
+            self._begin()
 
     def _begin(self) -> None:
         """An answer has come, or the program has asked."""
@@ -353,20 +360,24 @@ class Till:
             self._passed.append(self._place)
             of = _fields(words)
             begin = of.get("n", "")[:20]
-            if of.get("s") == self.series and begin.isdecimal() and int(begin) + BATCH > self.number:
-                for n, line in enumerate(of.get("a", "").split("\n"), int(begin)):
-                    self._accept(n, *line.partition(" ")[::2])
+            if of.get("s") == self.series and begin.isdecimal():
+                self._accept(int(begin), of.get("a", "").split("\n"))
         if len(self._passed) >= 128:
             await self.shop.ask(self._answers, "XTRIM", self._answers, "MINID", self._passed[-64])
             self._passed.clear()
         return bool(found)
 
-    def _accept(self, n: int, its: str, answer: str) -> None:
-        if self.number <= n < self.number + len(self._sent) and n not in self._got:
-            if its == mark(self._kept[n - self.number]):
-                self._got[n] = answer
-            else:
-                self.strange += 1
+    def _accept(self, begin: int, lines: List[str]) -> None:
+        """Takes the answers from a number on, of rows that wait for them."""
+        passed = max(0, self.number - begin)
+        waiting = islice(self._kept, min(len(self._sent), max(0, begin - self.number)), len(self._sent))
+        for n, line, text in zip(count(begin + passed), lines[passed:], waiting):
+            its, _, answer = line.partition(" ")
+            if n not in self._got:
+                if its == mark(text):
+                    self._got[n] = answer
+                else:
+                    self.strange += 1
 
     async def _look(self) -> None:
         """After an error or a silence: asks for the entry of the first row, if Redis had acknowledged it, and then reads

@@ -9,7 +9,7 @@ import urllib.request
 
 import pytest
 
-from workers_and_tills import LANES, NORILADLE, Shop, Till, Workers, keys, rows_of
+from workers_and_tills import LANES, NORILADLE, Shop, Till, Workers, entries, keys, rows_of
 from redis_cluster import Cluster, free_ports, make_certificates
 from lane_faults import most_memory
 from noriladle.streams import NoAnswer
@@ -105,6 +105,28 @@ def test_a_till_goes_on_row_by_row():
             # A till beside it that has its series gets its own answers.
             third = Till(shop, "3", first.series, 7)
             assert await asyncio.gather(third.read(EAN13), second.read(EAN13)) == [READ, READ]
+    with_node(test)
+
+
+def test_rows_that_come_one_by_one_share_their_answers(monkeypatch):
+    """Entries of a row that follow each other are answered by few entries; none has the answers of more than 256 rows, of whatever size
+    the entries of rows are."""
+    async def test(shop, node):
+        tills = Till(shop, "3"), Till(shop, "3")
+
+        async def read(till, times):
+            assert [said async for _, said in till.read_all([EAN13, EAN8, "100"] * times)] == [READ, GUM, "refused 19 Blank"] * times
+
+        monkeypatch.setattr(keys, "BYTES", 1)
+        reading = [asyncio.ensure_future(read(till, 300)) for till in tills]
+        while await shop.ask(ROWS, "XLEN", ROWS) < 1800:
+            await asyncio.sleep(0.02)
+        with Workers(node.address, 1):
+            await asyncio.gather(*reading)
+            assert await shop.ask(ROWS, "XLEN", ANSWERS) < 40
+            monkeypatch.undo()
+            await read(tills[0], 340)
+        assert max(of["a"].count("\n") for _, of in await entries(node.address, ANSWERS)) < 256
     with_node(test)
 
 
