@@ -204,7 +204,7 @@ class Journal:
         if self._file is None:
             files = files_of(self._folder)
             sizes = [it.stat().st_size for it in files]
-            while files and sum(sizes) + full > self._most:
+            while files and sum(sizes) + max(full, more) > self._most:
                 files.pop(0).unlink()
                 sizes.pop(0)
             self._bytes, self._size = sum(sizes), 0

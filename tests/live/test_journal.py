@@ -50,19 +50,21 @@ def test_what_is_in_it(tmp_path):
         assert scan_all(client, "till-1", [EAN, b"]E09501101530004", odd])[0] == f"0 {READ}\n"
         other.send(b"scan till-2\n5\n5\tunplugged\n")
         assert [other.line(), other.line()] == ["0 next\n", "5 unread: unplugged\n"]
-        with gateway.connect() as rows:
-            assert rows.ask(ROW) == f"0 {READ}\n" and rows.ask(b"9501101530003\n") == "- - (01)09501101530003\n"
+        for _ in range(2):  # The numbers of rows begin anew in each connection.
+            with gateway.connect() as rows:
+                assert rows.ask(ROW) == f"0 {READ}\n" and rows.ask(b"9501101530003\n") == "- - (01)09501101530003\n"
         said, counts, status = check(folder)
         lines = [line.split("\t") for line in said.splitlines()]
         assert [line[1:] for line in lines] == [
             ["till-1", "0", EAN.decode(), READ], ["till-1", "1", "]E09501101530004", "refused 3 CheckDigit"],
             ["till-1", "2", r"]C110A\x1d\xff\x5c\x09B", "refused 5 UnknownAi 4"],
-            ["till-2", "5", "", "unread: unplugged"], ["-", "0", ROW.decode().strip(), READ], ["-", "-", "9501101530003", "- (01)09501101530003"],
+            ["till-2", "5", "", "unread: unplugged"],
+            *2 * [["-", "0", ROW.decode().strip(), READ], ["-", "-", "9501101530003", "- (01)09501101530003"]],
         ]
         assert all(abs(time.mktime(time.strptime(line[0][:19], "%Y-%m-%dT%H:%M:%S")) - time.timezone - begin) < 5 for line in lines)
-        assert (counts, status) == ("6 records in 1 files, 0 faults\n", 0)
+        assert (counts, status) == ("8 records in 1 files, 0 faults\n", 0)
     assert check(folder, "--lane", "till-2")[0].count("\n") == 1
-    assert check(folder, "--check") == ("", "6 records in 1 files, 0 faults\n", 0)
+    assert check(folder, "--check") == ("", "8 records in 1 files, 0 faults\n", 0)
     assert '"lane": "till-2", "number": "5", "text": "", "answer": "unread: unplugged"}' in check(folder, "--json")[0]
     assert oct(folder.stat().st_mode & 0o777) == "0o750"
 
@@ -294,6 +296,20 @@ def test_files_follow_each_other_and_have_a_limit(tmp_path):
     records = list(Check(folder))
     assert records[0].number > 1 and records[-1].number == 10_000
     assert check(folder, "--check")[2] == 0
+
+
+def test_files_have_their_limit_whatever_comes_together(tmp_path):
+    """Each write fits a file, or has one of its own."""
+    async def test():
+        journal = Journal(str(tmp_path / "journal"), 1 << 20, False, Log(), Metrics())
+        for size in (10, 200, 200, 700, 10, 200, 30):  # In kB; a file has up to 256.
+            assert await journal.put_all([Scan(time.time(), "-", "-", "0", b"1" * 900, READ)] * size) == ""
+            sizes = [it.stat().st_size for it in (tmp_path / "journal").glob("scans-*.tsv")]
+            assert sum(sizes) <= 1 << 20 and all(it <= 1 << 18 or it > 600_000 for it in sizes)
+        journal.close()
+        assert not list(Check(tmp_path / "journal"))[0].number == 1
+
+    asyncio.run(asyncio.wait_for(test(), 30))
 
 
 @pytest.mark.parametrize("what, wanted", [

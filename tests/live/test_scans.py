@@ -261,11 +261,15 @@ def test_a_scan_has_two_seconds_whatever_its_program_does(gateway):
         assert scanner.ask(b"scan till-1\n0\n") == "0 next\n" == till.line()
         os.kill(gateway.hub(), signal.SIGSTOP)
         begin = time.monotonic()
-        scanner.send(b"0 " + EAN8 + b"\n")
+        for number in (b"0 ", b"1 "):  # The second one comes while the first one waits.
+            scanner.send(number + EAN8 + b"\n")
+            time.sleep(0.1)
         assert till.line() == scanner.line() == "0 unread: no answer in 2 seconds\n" and 1.9 < time.monotonic() - begin < 4
+        first = time.monotonic()
+        assert till.line() == scanner.line() == "1 unread: no answer in 2 seconds\n" and time.monotonic() - first < 1.5
         os.kill(gateway.hub(), signal.SIGCONT)
-        scanner.send(b"1 " + EAN8 + b"\n")
-        assert till.line() == f"1 {GUM}\n"
+        scanner.send(b"2 " + EAN8 + b"\n")
+        assert till.line() == f"2 {GUM}\n"
 
 
 def test_a_till_that_takes_nothing_holds_up_no_other(gateway):
