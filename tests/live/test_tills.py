@@ -109,24 +109,30 @@ def test_a_till_goes_on_row_by_row():
 
 
 def test_rows_that_come_one_by_one_share_their_answers(monkeypatch):
-    """Entries of a row that follow each other are answered by few entries; none has the answers of more than 256 rows, of whatever size
-    the entries of rows are."""
+    """Entries of a row that follow each other are answered by few entries; none has the answers of more than 256 rows, or of two series."""
     async def test(shop, node):
-        tills = Till(shop, "3"), Till(shop, "3")
+        one, two = Till(shop, "3"), Till(shop, "3")
+        again = Till(shop, "3", one.series, 600)
 
         async def read(till, times):
             assert [said async for _, said in till.read_all([EAN13, EAN8, "100"] * times)] == [READ, GUM, "refused 19 Blank"] * times
 
+        async def submit(till, times, entries):
+            before = await shop.ask(ROWS, "XLEN", ROWS)
+            reading = asyncio.ensure_future(read(till, times))
+            while await shop.ask(ROWS, "XLEN", ROWS) < before + entries:
+                await asyncio.sleep(0.02)
+            return reading
+
         monkeypatch.setattr(keys, "BYTES", 1)
-        reading = [asyncio.ensure_future(read(till, 300)) for till in tills]
-        while await shop.ask(ROWS, "XLEN", ROWS) < 1800:
-            await asyncio.sleep(0.02)
+        reading = [await submit(two, 200, 600), await submit(one, 200, 600)]
+        monkeypatch.undo()
+        reading.append(await submit(again, 300, 4))
         with Workers(node.address, 1):
             await asyncio.gather(*reading)
-            assert await shop.ask(ROWS, "XLEN", ANSWERS) < 40
-            monkeypatch.undo()
-            await read(tills[0], 340)
-        assert max(of["a"].count("\n") for _, of in await entries(node.address, ANSWERS)) < 256
+        found = await entries(node.address, ANSWERS)
+        assert len(found) < 40 and max(of["a"].count("\n") for _, of in found) < 256
+        assert not any(till.lost or till.repeated or till.strange for till in (one, two, again))
     with_node(test)
 
 

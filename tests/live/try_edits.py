@@ -76,8 +76,9 @@ class Edit:
             )
         # If a test passed and then had an error, a service wrote to standard error.
         wrong = " failed" in ran.stdout or (" passed" in ran.stdout and " error" in ran.stdout)
-        found = ran.returncode == 1 and wrong or ran.returncode in (124, 137, -9)
-        print(f"{'found' if found else 'MISSED'}: {self.name}", flush=True)
+        is_late = ran.returncode in (124, 137, -9)
+        found = ran.returncode == 1 and wrong or is_late
+        print(f"{'found' if found else 'MISSED'}: {self.name}{', by its time' if is_late else ''}", flush=True)
         if not found:
             print(ran.stdout[-500:] + ran.stderr[-500:], file=sys.stderr)
         return found
