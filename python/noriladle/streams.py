@@ -131,7 +131,6 @@ class _Shard:
                 self._count = 1
             except FAULTS as fault:
                 looked = 0.0
-                self._is_full |= str(fault).startswith("OOM")
                 await self._shop.rest(fault)
 
     async def _look(self) -> List[str]:
@@ -152,7 +151,8 @@ class _Shard:
         replies = iter(await self._shop.ask_all(tag(self._shard), commands))
         claimed: Dict[str, List[str]] = {}
         sizes: Dict[str, int] = {}
-        for lane, _, kept, taken, *its in zip(lanes, *[replies] * 5):
+        for lane, made, kept, taken, *its in zip(lanes, *[replies] * 5):
+            self._is_full |= str(made).startswith("OOM")
             sizes.update((it, size) for it, size in zip((lane, _answers_of(lane)), its) if isinstance(size, int))
             fault = next((it for it in (kept, taken) if isinstance(it, Fault)), None)
             if fault:
