@@ -53,7 +53,6 @@ _ANY_YEAR = 2000
 """For calls whose answer has no day."""
 # The symbology identifiers that an element string may follow.
 _ELEMENT_STRINGS = (b"]C1", b"]e0", b"]d2", b"]Q3", b"]J1")
-_LINE_OF_REFUSAL = re.compile(r"refused (\d+) (\w+)(?: (\d+))?")
 
 Ais = Literal["all", "profile"]
 """Which Application Identifiers are accepted: every one of the GS1 General Specifications, or those of the profile."""
@@ -75,7 +74,8 @@ assert ctypes.sizeof(_RawAnswer) == 1068, "the size that gs1.h promises"
 
 _library = ctypes.CDLL(str(Path(__file__).with_name("libgs1.so")))
 _SIZE, _U16, _U32, _BYTES, _WIDTHS = ctypes.c_size_t, ctypes.c_uint16, ctypes.c_uint32, ctypes.c_char_p, ctypes.POINTER(ctypes.c_uint16)
-_library.gs1_read_message.argtypes = _library.gs1_read_elements.argtypes = _library.gs1_read_gtin.argtypes = [_BYTES, _SIZE, _U16, _RawAnswer]
+for _name in ("gs1_read_message", "gs1_read_elements", "gs1_read_gtin", "gs1_read_data"):
+    getattr(_library, _name).argtypes = [_BYTES, _SIZE, _U16, _RawAnswer]
 _library.gs1_read_row.argtypes = [_WIDTHS, _SIZE, _U16, _RawAnswer]
 _library.gs1_read_dots.argtypes = [_BYTES, _U32, _U16, _RawAnswer]
 _library.gs1_find.argtypes = [_WIDTHS, _SIZE, _U16, _BYTES, _SIZE]
@@ -83,11 +83,11 @@ _library.gs1_find_dots.argtypes = [_BYTES, _U32, _U16, _BYTES, _SIZE]
 _library.gs1_c_picture.argtypes = [
     ctypes.c_void_p, _SIZE, _U32, _U32, _SIZE, ctypes.c_uint8, _U16, ctypes.c_void_p, _SIZE, ctypes.c_void_p, _SIZE, _BYTES, _SIZE]
 _library.gs1_c_picture_room.argtypes = [_U32, _U32]
-_library.gs1_c_date.argtypes = [_BYTES, _SIZE, _U16, _BYTES, _SIZE]
+_library.gs1_text.argtypes = [_BYTES, _SIZE, _U16, _BYTES, _SIZE]
 _library.gs1_c_digit.argtypes = [_BYTES, _SIZE, _BYTES, _SIZE]
 _library.gs1_c_symbol.argtypes = [_U32, _BYTES, _SIZE, _U16, _BYTES, _SIZE]
 _library.gs1_c_label.argtypes = [_U32, _BYTES, _SIZE, _U16, _U16, _U16, _U16, _BYTES, _SIZE]
-for _name in ("gs1_find", "gs1_find_dots", "gs1_c_picture", "gs1_c_picture_room", "gs1_c_date", "gs1_c_digit", "gs1_c_label", "gs1_c_symbol"):
+for _name in ("gs1_text", "gs1_find", "gs1_find_dots", "gs1_c_picture", "gs1_c_picture_room", "gs1_c_digit", "gs1_c_label", "gs1_c_symbol"):
     getattr(_library, _name).restype = _SIZE
 
 
@@ -246,9 +246,9 @@ class Answer:
     GS1-128, or another that a scanner sent; None if the scanner sent none."""
     elements: Tuple[Element, ...]
     symbol: Optional[SymbolKind] = field(default=None, repr=False, compare=False)
-    """The kind of symbol, such as ``upca``. In rows and dots it is known exactly. Of the text of a scanner it is what the
-    identifier says; behind ``]E0`` it is a guess from the number of digits, since a scanner may send a UPC-E as the 12 digits
-    of a UPC-A. None if it is not known: without an identifier, in pictures, and in the replies of a running hub."""
+    """The kind of symbol, such as ``upca``. In rows and dots it is known exactly. Elsewhere it is what the identifier says:
+    behind ``]E0`` it is a guess from the digits, since a scanner may send a UPC-E as the 12 digits of a UPC-A. None without an
+    identifier."""
 
     if not TYPE_CHECKING:
         def __getattr__(self, name: str) -> Any:
@@ -351,13 +351,13 @@ def _ask(call: Any, *words: Any, room: int = _LINE) -> bytes:
         room = length
 
 
-def _read(call: Any, *words: Any) -> Answer:
-    """The answer with which a call fills a struct; raises its error if it is one. Of the elements it keeps the text and the places."""
+def _said(call: Any, *words: Any) -> Union[Answer, Refusal]:
+    """What a call says that fills a struct, or its error. Of the elements it keeps the text and the places."""
     raw = _RawAnswer()
     call(*words, raw)
     fault, place, symbol, count, length, _, identifier, text = _HEAD.unpack_from(raw)
     if fault:
-        raise Refusal(fault, _remedies()[str(fault)][2], None if place == _NO_PLACE else place)
+        return Refusal(fault, _remedies()[str(fault)][2], None if place == _NO_PLACE else place)
     answer = object.__new__(Answer)
     answer.__dict__.update(
         identifier=identifier[:3].decode("ascii") if identifier[0] else None, symbol=_SYMBOLS[symbol],
@@ -365,10 +365,17 @@ def _read(call: Any, *words: Any) -> Answer:
     return answer
 
 
-def _text_and_places(answer: Answer) -> Tuple[str, bytes]:
-    """What :func:`_read` keeps of the elements of an answer."""
-    told: Tuple[str, bytes] = answer.__dict__["_told"]
-    return told
+def _read(call: Any, *words: Any) -> Answer:
+    """The same, but raises the error."""
+    said = _said(call, *words)
+    if isinstance(said, Refusal):
+        raise said
+    return said
+
+
+def _said_in(line: bytes, terms: int) -> Union[Answer, Refusal]:
+    """The answer or the error whose line this is, with the elements as data; of any other line, error 40."""
+    return _said(_library.gs1_read_data, line, len(line), terms)
 
 
 def _elements_at(text: str, places: bytes) -> Tuple[Element, ...]:
@@ -389,15 +396,6 @@ def _elements_at(text: str, places: bytes) -> Tuple[Element, ...]:
     return tuple(elements)
 
 
-def _refusal(line: str) -> Optional[Refusal]:
-    """The error that a line reports, if it does."""
-    told = _LINE_OF_REFUSAL.fullmatch(line)
-    if told is None:
-        return None
-    number, name, place = told.groups()
-    return Refusal(int(number), name, None if place is None else int(place))
-
-
 def _with_before(refusal: Refusal, text: bytes, terms: int) -> Refusal:
     """The error of an element string, with the elements before its place and the Application Identifier there."""
     place = refusal.place
@@ -409,47 +407,10 @@ def _with_before(refusal: Refusal, text: bytes, terms: int) -> Refusal:
 
 
 def _line(answer: bytes) -> str:
-    """The line of an answer; raises its error if it is one."""
-    line = answer.decode("ascii")
-    refusal = _refusal(line)
-    if refusal:
-        raise refusal
-    return line
-
-
-def _answer_of(line: str, terms: int) -> Answer:
-    """The answer of a line that is no error: ``-`` stands for an identifier that was not sent."""
-    identifier, _, elements = line.partition(" ")
-    return Answer(None if identifier == "-" else identifier, _elements(elements, terms))
-
-
-def _elements(pairs: str, terms: int) -> Tuple[Element, ...]:
-    """The elements of pairs: no value has a tab."""
-    return tuple(_element(pair, terms) for pair in pairs.split("\t"))
-
-
-def _element(pair: str, terms: int) -> Element:
-    """The element of a pair: no Application Identifier has an equals sign."""
-    ai, _, value = pair.partition("=")
-    # A value that names a day is 6 to 12 digits. The library is asked about no other.
-    if not (6 <= len(value) <= 12 and value.isdecimal()):
-        return Element(ai, value)
-    words = _ask(_library.gs1_c_date, pair.encode("ascii"), len(pair), terms).decode("ascii").split(" ")
-    # A hub of another version may report elements that this library refuses.
-    if words[0] != "date":
-        return Element(ai, value)
-    time = datetime.time.fromisoformat(words[2]) if len(words) == 3 else None
-    return Element(ai, value, _day(words[1]), time, _until(ai, value, terms))
-
-
-def _day(text: str) -> Optional[datetime.date]:
-    """The day of a text; None in the year 0000, which Python's dates do not have."""
-    return None if text.startswith("0000") else datetime.date.fromisoformat(text)
-
-
-def _until(ai: str, value: str, terms: int) -> Optional[datetime.date]:
-    """The second day of 7007, read like any other day of six digits."""
-    return _element(f"17={value[6:]}", terms).date if ai == "7007" and len(value) == 12 else None
+    """The line of a call; raises its error if it is one."""
+    if answer.startswith(b"refused "):
+        _read(_library.gs1_read_data, answer, len(answer), _ANY_YEAR)
+    return answer.decode("ascii")
 
 
 def _places(call: Any, *words: Any) -> List[Tuple[int, int]]:
@@ -634,7 +595,7 @@ def read_gtin(text: Union[str, bytes]) -> str:
     :raises Refusal: it is no GTIN: 1 ``Length``, 2 ``NotDigit`` or 3 ``CheckDigit``.
     """
     digits = _bytes(text)
-    element, _ = _text_and_places(_read(_library.gs1_read_gtin, digits, len(digits), _ANY_YEAR))
+    element: str = _read(_library.gs1_read_gtin, digits, len(digits), _ANY_YEAR).__dict__["_told"][0]
     return element[len("01"):]
 
 
@@ -652,8 +613,11 @@ def read_elements(text: Union[str, bytes], year: int, *, ais: Ais = "all") -> st
 
     :raises Refusal: its first fault, 4 ``Empty`` to 11 ``TooLong``; 42 ``Words`` if the year is out of range.
     """
-    string, places = _text_and_places(_parse(_bytes(text), _terms(year, ais)))
-    return "".join([f"({string[it[0]:it[1]]}){string[it[1]:it[2]]}" for it in _PLACE.iter_unpack(places)])
+    string, terms = _bytes(text), _terms(year, ais)
+    try:
+        return _line(_ask(_library.gs1_text, string, len(string), terms))[len("hri "):]
+    except Refusal as refusal:
+        raise _with_before(refusal, string, terms)
 
 
 def parse_elements(text: Union[str, bytes], year: int, *, ais: Ais = "all") -> Tuple[Element, ...]:

@@ -31,7 +31,7 @@ from dataclasses import dataclass
 from types import TracebackType
 from typing import AsyncIterator, Deque, Iterable, List, Optional, Sequence, Tuple, Type, Union, cast
 
-from . import Ais, Answer, Refusal, _answer_of, _bytes, _refusal, _terms
+from . import Ais, Answer, Refusal, _bytes, _said_in, _terms
 
 __all__ = ["Hub", "HubEnded", "Lane", "Reply", "Widths"]
 
@@ -307,15 +307,15 @@ class _Process(asyncio.SubprocessProtocol):
     def _take(self, line: bytes) -> None:
         """Gives a line to the call whose row it answers. Lines come in the order of the rows."""
         asked, reply = self._sent[0]
-        lane, number, text = line.decode("ascii").split(" ", 2)
-        if lane not in ("-", str(asked)) or number not in ("-", str(self._numbers[asked])):
+        lane, number, text = line.split(b" ", 2)
+        if lane not in (b"-", b"%d" % asked) or number not in (b"-", b"%d" % self._numbers[asked]):
             raise ValueError("of another row")
-        answer = _refusal(text) or _answer_of(text, self._terms)
+        answer = _said_in(text, self._terms)
         # Nothing fails from here on, so no row leaves the list without its reply.
         self._sent.popleft()
         if not reply.done():
-            reply.set_result(Reply(asked, None if number == "-" else int(number), answer))
-        self._numbers[asked] += number != "-"
+            reply.set_result(Reply(asked, None if number == b"-" else int(number), answer))
+        self._numbers[asked] += number != b"-"
         while self._waiting and len(self._sent) < self._most:
             following, (lane_of_it, record) = self._waiting.popitem(last=False)
             if not following.done():

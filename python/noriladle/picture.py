@@ -12,7 +12,7 @@ try:
 except ImportError as error:
     raise ImportError("read_picture needs numpy and Pillow: pip install 'noriladle[picture]'") from error
 
-from . import _MOST, Ais, Box, Refusal, Symbol, _answer_of, _ask, _library, _refusal, _terms
+from . import _MOST, Ais, Box, Refusal, Symbol, _ask, _library, _line, _read, _terms
 
 Picture = Union[Image.Image, str, "os.PathLike[str]", "numpy.ndarray[Any, Any]"]
 
@@ -55,27 +55,30 @@ def read(picture: Picture, year: int, level: Optional[int] = None, ais: Ais = "a
     words = numpy.empty(_library.gs1_c_picture_room(min(width, _MOST + 1), min(height, _MOST + 1)), numpy.uint32)
     widths = numpy.empty(width + 2, numpy.uint16)
     told = _ask(_library.gs1_c_picture, grey.ctypes.data, grey.size, min(width, _MOST + 1), min(height, _MOST + 1), width, level or 0, terms,
-                words.ctypes.data, words.size, widths.ctypes.data, widths.size, room=_ROOM).decode("ascii")
-    if not told.endswith("\n"):
-        reason = _refusal(told)
-        if reason and reason.number in _OF_THE_CALL:
-            raise reason
-        return Shown([], 0, reason)
+                words.ctypes.data, words.size, widths.ctypes.data, widths.size, room=_ROOM)
+    if not told.endswith(b"\n"):
+        try:
+            _line(told)
+        except Refusal as reason:
+            if reason.number in _OF_THE_CALL:
+                raise
+            return Shown([], 0, reason)
+        return Shown([], 0, None)
     *lines, last = told.splitlines()
-    word, _, dropped = last.partition(" ")
-    if word != "dropped":
-        lines, dropped = [*lines, last], "0"
+    word, _, dropped = last.partition(b" ")
+    if word != b"dropped":
+        lines, dropped = [*lines, last], b"0"
     return Shown([_symbol(line, terms, width, height) for line in lines], int(dropped), None)
 
 
-def _symbol(line: str, terms: int, width: int, height: int) -> Symbol:
+def _symbol(line: bytes, terms: int, width: int, height: int) -> Symbol:
     """The symbol of a line, with its box in a picture of this size."""
-    *numbers, said = line.split(" ", 9)
+    *numbers, said = line.split(b" ", 9)
     places = [int(number) / _UNIT for number in numbers[:8]]
     xs, ys = places[0::2], places[1::2]
     corners: Tuple[Tuple[float, float], ...] = tuple(zip(xs, ys))
     box = Box(math.floor(min(xs)), math.floor(min(ys)), min(width, math.ceil(max(xs))), min(height, math.ceil(max(ys))))
-    return Symbol(_answer_of(said, terms), box, corners, int(numbers[8]))
+    return Symbol(_read(_library.gs1_read_data, said, len(said), terms), box, corners, int(numbers[8]))
 
 
 def grey_of(picture: Picture) -> "numpy.ndarray[Any, Any]":

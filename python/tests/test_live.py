@@ -429,9 +429,9 @@ def test_a_process_that_does_not_end(monkeypatch):
     ("exit 3", "the hub has ended, status 3"),
     ("sleep 1000 & exit 3", "the hub has ended, status 3"),
     ("echo first >&2; echo refused 36 NoThread >&2; exit 1", "the hub has ended, status 1: refused 36 NoThread"),
-    ("read row; echo 1 0 ]E0 01=1; sleep 1000", "what was not asked: .*1 0 ]E0 01=1"),  # Another lane.
-    ("read row; echo 0 1 ]E0 01=1; sleep 1000", "what was not asked: .*0 1 ]E0 01=1"),  # Another number.
-    ("read row; echo 0 0 ]E0 01=1; echo 0 0 ]E0 01=1; read row; sleep 1000", "what was not asked"),  # The same again.
+    ("read row; echo 1 0 ]E0 01=09501101530003; sleep 1000", "what was not asked: .*1 0 ]E0 01=09501101530003"),  # Another lane.
+    ("read row; echo 0 1 ]E0 01=09501101530003; sleep 1000", "what was not asked: .*0 1 ]E0 01=09501101530003"),  # Another number.
+    ("read row; echo 0 0 ]E0 01=09501101530003; echo 0 0 ]E0 01=09501101530003; read row; sleep 1000", "what was not asked"),  # The same again.
     ("read row; echo no answer; sleep 1000", "what was not asked"),
     ("read row; printf '\\377 0 ]E0\\n'; sleep 1000", "what was not asked"),
 ])
@@ -446,16 +446,24 @@ def test_a_process_that_is_no_hub(script, why):
 
 def test_a_line_that_comes_in_two_pieces():
     async def test():
-        script = "read row; printf '0 0 ]E0 0'; sleep 0.2; echo 1=1; read row"
+        script = "read row; printf '0 0 ]E0 0'; sleep 0.2; echo 1=09501101530003; read row"
         async with Hub(1, 1, 2026, program=["sh", "-c", script]) as hub:
-            assert (await hub.lane(0).read(WIDTHS)).answer == Answer("]E0", (Element("01", "1"),))
+            assert (await hub.lane(0).read(WIDTHS)).answer == Answer("]E0", (Element("01", "09501101530003"),))
+    run(test())
+
+
+@pytest.mark.parametrize("said", ["]E0 01=1", "]E0 (01)09501101530003", "some more words", "refused 3 Kind", ""])
+def test_a_reply_that_is_no_answer(said):
+    async def test():
+        async with Hub(1, 1, 2026, program=["sh", "-c", f"read row; echo '0 0 {said}'; read row"]) as hub:
+            assert str((await hub.lane(0).read(WIDTHS)).answer) == "refused 40 Kind"
     run(test())
 
 
 def test_a_reply_to_nothing():
     async def test():
-        async with Hub(2, 1, 2026, program=["sh", "-c", "echo 0 0 ]E0 01=1; sleep 1000"]) as hub:
-            assert str(await hub.ended()) == "the hub answered what was not asked: b'0 0 ]E0 01=1', status -9"
+        async with Hub(2, 1, 2026, program=["sh", "-c", "echo 0 0 ]E0 01=09501101530003; sleep 1000"]) as hub:
+            assert str(await hub.ended()) == "the hub answered what was not asked: b'0 0 ]E0 01=09501101530003', status -9"
     run(test())
 
 

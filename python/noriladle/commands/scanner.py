@@ -22,11 +22,11 @@ import time
 import tty
 from typing import List, Optional, Tuple
 
-from .. import Ais, Refusal, _service, read_scan
+from .. import Ais, Answer, Refusal, _said_in, _service, _terms, read_scan
 from .._keys import EVENT, FOREIGN, LOST, Keyboard, events_of, grab, make_keyboard
 from .._link import Link, now
 from .._log import writer
-from .._scans import SECONDS, is_name, text_of
+from .._scans import SECONDS, is_name
 from .._service import notify
 from . import REFUSED, RIGHT, WrongWords, add_ais, add_year, tell
 
@@ -40,7 +40,6 @@ PATIENCE = 3.0
 """How many seconds at most remain, after the scanner is unplugged, to report to the till what was lost."""
 
 _INPUT = 13  # The major number of event devices.
-_GTIN = re.compile(r"\S+ (?:\(01\)|01=)([0-9]{14})")
 _NO_END = "no CR, LF, Tab or Enter came behind the text: set the scanner to send one"
 _SLEPT = "the program of the scanner slept while the text came"
 _LOST = "keys were lost: the machine was too busy"
@@ -264,18 +263,20 @@ def _checked(text: bytes, year: int, ais: Ais) -> str:
 
 def _typed(words: argparse.Namespace, said: str, text: bytes) -> str:
     """What is typed of the answer to a text: its elements, or the digits of its GTIN, if it has one."""
-    return said.partition(" ")[2] if words.type == "elements" else digits_of(_gtin_of(said, text, words.year, words.ais))
+    return said.partition(" ")[2] if words.type == "elements" else digits_of(_gtin_of(said, text, words.year))
 
 
-def _gtin_of(said: str, text: bytes, year: int, ais: Ais) -> str:
-    """The GTIN of the answer to a text, wherever it stands in it; empty if there is none, or two that differ. If the gateway reads the
-    text otherwise, it is the GTIN with which the answer begins: elsewhere a value may look like one."""
+def _gtin_of(said: str, text: bytes, year: int) -> str:
+    """The GTIN of the answer to a text, wherever it stands in it; empty if there is none, or two that differ. An answer for people does not
+    tell its elements apart, since a value may look like some: then it is the GTIN of the text, if that says the same here."""
+    told = _said_in(said.encode(), _terms(year, "all"))
+    if isinstance(told, Answer):
+        return told.gtin or ""
     with contextlib.suppress(Refusal):
-        answer = read_scan(text, year, ais=ais)
-        if said in (text_of(answer, elements=False), text_of(answer, elements=True)):
+        answer = read_scan(text, year)
+        if str(answer) == said:
             return answer.gtin or ""
-    found = _GTIN.match(said)
-    return found[1] if found else ""
+    return ""
 
 
 def digits_of(gtin: str) -> str:

@@ -17,7 +17,7 @@ import socket
 import ssl
 from typing import List, Optional, Sequence
 
-from .. import _service
+from .. import Refusal, _service
 from .._health import Health, Metrics, serve
 from .._lanes import Watch
 from .._log import take_libraries
@@ -135,12 +135,12 @@ def _worker(shop: Shop, name: str, hub: Hub, of: Metrics) -> Worker:
     refusals = of.counter("noriladle_refusals_total", "Rows that were refused, by the number of the refusal.", "number")
 
     async def answer(texts: Sequence[str]) -> List[str]:
-        said = [str(reply.answer) async for reply in hub.lane(0).read_all(texts, len(texts))]
-        for number in [it.split()[1] for it in said if it.startswith("refused ")]:
-            if number == "35":
+        said = [reply.answer async for reply in hub.lane(0).read_all(texts, len(texts))]
+        for refusal in [it for it in said if isinstance(it, Refusal)]:
+            if refusal.name == "Spent":
                 raise HubEnded("the hub has used all numbers of its lane; start the worker again")
-            refusals.add(number)
-        return said
+            refusals.add(str(refusal.number))
+        return [str(it) for it in said]
 
     worker = Worker(shop, name, answer)
     of.count_of("noriladle_answers_total", "Rows that were answered, refusals among them.", lambda: worker.given)
