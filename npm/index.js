@@ -32,18 +32,7 @@ export class Refusal extends Error {
   get remedy() { return REMEDIES[this.number]; }
 }
 
-// The error that a line reports, or nothing.
-function refusalOf(line) {
-  const told = /^refused (\d+) (\w+)(?: (\d+))?$/.exec(line);
-  return told && new Refusal(Number(told[1]), told[2], told[3] === undefined ? undefined : Number(told[3]));
-}
-
-// A line, unless it reports an error.
-function accepted(line) {
-  const refusal = refusalOf(line);
-  if (refusal) throw refusal;
-  return line;
-}
+const refusalOf = ({ fault, place }) => new Refusal(fault, Calls.faults[fault], place);
 
 // A number for a call: 0, which every call refuses, if it is out of range.
 const u16 = (number) => (Number.isInteger(number) && number >= 0 && number <= MOST_U16 ? number : 0);
@@ -139,24 +128,31 @@ class Gs1 {
     const dots = [module, width, height].map(u16);
     const image = this.#calls.ask(this.#calls.calls.gs1_c_label, Calls.kinds.indexOf(kind), ...this.#put(bytesOf(text)), termsOf(year, { ais }), ...dots);
     // An image begins with P4.
-    if (image[0] !== 0x50) accepted(this.#calls.line(image));
+    if (image[0] !== 0x50) throw this.#refusalIn(this.#calls.line(image));
     return image.slice();
   }
 
   readPicture(pixels, year, { level = 0, ais } = {}) {
     if (!Number.isInteger(level) || level < 0 || level > 255) throw new RangeError("the level is not 1 to 255");
-    const terms = termsOf(year, { ais }), { symbols, reason } = symbolsShown(this.#calls.picture(greyOf(pixels), level, terms)), refusal = refusalOf(reason);
+    const terms = termsOf(year, { ais }), { symbols, reason } = symbolsShown(this.#calls.picture(greyOf(pixels), level, terms)), refusal = this.#refusalIn(reason);
     if (refusal && OF_THE_CALL.includes(refusal.number)) throw refusal;
-    // Such a line begins with an identifier and a blank.
-    return symbols.map(({ said, corners, rows }) => ({ answer: new Answer(said.slice(0, 3), undefined, this.#calls.elements(said.slice(4), terms)), corners, rows }));
+    return symbols.map(({ said, corners, rows }) => ({ answer: answerOf(this.#calls.said(said, terms)), corners, rows }));
   }
 
-  #ask(call, ...words) { return accepted(this.#calls.told(call, ...words)); }
+  // The line of a call, unless it is an error.
+  #ask(call, ...words) {
+    const line = this.#calls.told(call, ...words), refusal = this.#refusalIn(line);
+    if (refusal) throw refusal;
+    return line;
+  }
+
+  // The error that a line reports, or nothing.
+  #refusalIn(line) { return line.startsWith("refused ") ? refusalOf(this.#calls.said(line, ANY_YEAR)) : undefined; }
 
   // What a call says that fills a struct, unless it is an error.
   #read(call, ...words) {
     const said = this.#calls.read(call, ...words);
-    if (said.fault) throw new Refusal(said.fault, Calls.faults[said.fault], said.place);
+    if (said.fault) throw refusalOf(said);
     return said;
   }
 

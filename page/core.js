@@ -22,14 +22,14 @@ const core = {
   // A text without room in the module's memory is too long for any code.
   scan: (text) => text.length > 65536 ? { refused: "refused 11 TooLong" } : gs1.read("gs1_c_read_message", ...gs1.put(text), core.terms),
 
-  // The elements of pairs.
-  elements: (pairs) => gs1.elements(pairs, core.terms),
+  // What the line of an answer says, with its elements as data.
+  said: (line) => gs1.said(line, core.terms),
 };
 
-// The number, the name and the place of an error.
+// The number, the name and the place of the error of a line.
 function refusalOf(line) {
-  const [, number, name, place] = line.match(/^refused (\d+) (\w+)(?: (\d+))?/) ?? [];
-  return { number: Number(number), name, place: place === undefined ? undefined : Number(place) };
+  const { fault, place } = core.said(line);
+  return { number: fault, name: Gs1.faults[fault], place };
 }
 
 // What a value means for a person, beyond its digits: a day, a weight, an amount of money, countries, a place; or nothing.

@@ -76,17 +76,8 @@ class Gs1 {
     return new RawAnswer(this.calls.memory.buffer, this.output);
   }
 
-  // The elements of pairs, with the days and the time that they name.
-  elements(pairs, terms) { return pairsOf(pairs).map(({ ai, value }) => ({ ai, value, ...this.dated(ai, value, terms) })); }
-
-  // Only digits name a day.
-  dated(ai, value, terms) {
-    if (!/^\d{6,12}$/.test(value)) return {};
-    const [told, date, time] = this.told("gs1_c_date", ...this.put(`${ai}=${value}`), terms).split(" ");
-    if (told !== "date") return {};
-    // Read the second day of 7007 like any other day of six digits.
-    return { date, time, until: ai === "7007" && value.length === 12 ? this.dated("17", value.slice(6), terms).date : undefined };
-  }
+  // What the line of an answer says, with its elements as data.
+  said(line, terms) { return this.read("gs1_c_read_data", ...this.put(line), terms); }
 
   // A text's place and length.
   put(text) { return [BigInt(this.input), BigInt(new TextEncoder().encodeInto(text, this.bytes).written)]; }
@@ -175,9 +166,3 @@ function symbolsShown(lines) {
   });
   return { symbols, reason: "" };
 }
-
-// The pairs of elements as data.
-const pairsOf = (pairs) => pairs.split("\t").map((pair) => {
-  const end = pair.indexOf("=");
-  return { ai: pair.slice(0, end), value: pair.slice(end + 1) };
-});

@@ -14,7 +14,7 @@ const MOST_PICTURES = 2000, MOST_SHOWN = 40, MOST_CARDS = 8;
 function readPicture(taken) {
   const from = performance.now(), { symbols: seen, reason } = core.picture(taken, taken.level ?? 0);
   taken.symbols = seen.map(({ said, corners, rows }) => {
-    const pairs = core.elements(said.slice(4));
+    const pairs = core.said(said).elements;
     return { line: said.slice(0, 4) + pairs.map(({ ai, value }) => `(${ai})${value}`).join(""), pairs, corners, rows };
   });
   taken.refused = seen.length ? null : reason;
