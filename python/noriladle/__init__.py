@@ -80,14 +80,14 @@ _library.gs1_read_row.argtypes = [_WIDTHS, _SIZE, _U16, _RawAnswer]
 _library.gs1_read_dots.argtypes = [_BYTES, _U32, _U16, _RawAnswer]
 _library.gs1_find.argtypes = [_WIDTHS, _SIZE, _U16, _BYTES, _SIZE]
 _library.gs1_find_dots.argtypes = [_BYTES, _U32, _U16, _BYTES, _SIZE]
-_library.gs1_c_picture.argtypes = [
-    ctypes.c_void_p, _SIZE, _U32, _U32, _SIZE, ctypes.c_uint8, _U16, ctypes.c_void_p, _SIZE, ctypes.c_void_p, _SIZE, _BYTES, _SIZE]
-_library.gs1_c_picture_room.argtypes = [_U32, _U32]
+_library.gs1_picture.argtypes = [
+    ctypes.c_void_p, _SIZE, _U32, _U32, _SIZE, ctypes.c_uint8, _U16, ctypes.c_void_p, _SIZE, _BYTES, _SIZE]
+_library.gs1_picture_room.argtypes = [_U32, _U32]
 _library.gs1_text.argtypes = [_BYTES, _SIZE, _U16, _BYTES, _SIZE]
-_library.gs1_c_digit.argtypes = [_BYTES, _SIZE, _BYTES, _SIZE]
-_library.gs1_c_symbol.argtypes = [_U32, _BYTES, _SIZE, _U16, _BYTES, _SIZE]
-_library.gs1_c_label.argtypes = [_U32, _BYTES, _SIZE, _U16, _U16, _U16, _U16, _BYTES, _SIZE]
-for _name in ("gs1_text", "gs1_find", "gs1_find_dots", "gs1_c_picture", "gs1_c_picture_room", "gs1_c_digit", "gs1_c_label", "gs1_c_symbol"):
+_library.gs1_digit.argtypes = [_BYTES, _SIZE, _BYTES, _SIZE]
+_library.gs1_symbol.argtypes = [_U32, _BYTES, _SIZE, _U16, _BYTES, _SIZE]
+_library.gs1_label.argtypes = [_U32, _BYTES, _SIZE, _U16, _U16, _U16, _U16, _BYTES, _SIZE]
+for _name in ("gs1_text", "gs1_find", "gs1_find_dots", "gs1_picture", "gs1_picture_room", "gs1_digit", "gs1_label", "gs1_symbol"):
     getattr(_library, _name).restype = _SIZE
 
 
@@ -605,7 +605,7 @@ def check_digit(text: Union[str, bytes]) -> int:
     :raises Refusal: 1 ``Length`` or 2 ``NotDigit``.
     """
     digits = _bytes(text)
-    return int(_line(_ask(_library.gs1_c_digit, digits, len(digits))).partition(" ")[2])
+    return int(_line(_ask(_library.gs1_digit, digits, len(digits))).partition(" ")[2])
 
 
 def read_elements(text: Union[str, bytes], year: int, *, ais: Ais = "all") -> str:
@@ -720,7 +720,7 @@ def label_symbol(kind: Union[Kind, str], text: Union[str, bytes], year: int, *, 
         and 26 ``LabelKind`` if the text has no such symbol.
     """
     said = _bytes(text)
-    answer = _ask(_library.gs1_c_symbol, _kind(kind).value, said, len(said), _terms(year, ais), room=_SYMBOL)
+    answer = _ask(_library.gs1_symbol, _kind(kind).value, said, len(said), _terms(year, ais), room=_SYMBOL)
     _, under, left, right, widths = _line(answer).split(" ")
     return LabelSymbol(under, int(left), int(right), tuple(map(int, widths)))
 
@@ -747,7 +747,7 @@ def draw_label(
     """
     said = _bytes(text)
     words = [_u16(number) for number in (module, width, height)]
-    image = _ask(_library.gs1_c_label, _kind(kind).value, said, len(said), _terms(year, ais), *words)
+    image = _ask(_library.gs1_label, _kind(kind).value, said, len(said), _terms(year, ais), *words)
     if not image.startswith(b"P4"):
         _line(image)
     return image

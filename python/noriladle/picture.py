@@ -52,10 +52,9 @@ def read(picture: Picture, year: int, level: Optional[int] = None, ais: Ais = "a
     terms = _terms(year, ais)
     grey = numpy.ascontiguousarray(grey_of(picture))
     height, width = grey.shape
-    words = numpy.empty(_library.gs1_c_picture_room(min(width, _MOST + 1), min(height, _MOST + 1)), numpy.uint32)
-    widths = numpy.empty(width + 2, numpy.uint16)
-    told = _ask(_library.gs1_c_picture, grey.ctypes.data, grey.size, min(width, _MOST + 1), min(height, _MOST + 1), width, level or 0, terms,
-                words.ctypes.data, words.size, widths.ctypes.data, widths.size, room=_ROOM)
+    columns, rows = min(width, _MOST + 1), min(height, _MOST + 1)
+    words = numpy.empty(_library.gs1_picture_room(columns, rows), numpy.uint32)
+    told = _ask(_library.gs1_picture, grey.ctypes.data, grey.size, columns, rows, width, level or 0, terms, words.ctypes.data, words.size, room=_ROOM)
     if not told.endswith(b"\n"):
         try:
             _line(told)
