@@ -21,10 +21,6 @@
 
 enum { YEAR = 2026, MOST_RUNS = 70000 };
 
-/* Names that older headers called: programs which were compiled with one find them still. */
-size_t gs1_c_dots(const uint8_t *bits, size_t bytes, uint32_t count, uint16_t year, uint8_t *out, size_t room);
-size_t gs1_c_find_dots(const uint8_t *bits, size_t bytes, uint32_t count, uint16_t year, uint8_t *out, size_t room);
-
 static long checks, wrong;
 
 /* A question: which call, and what it is asked. */
@@ -188,10 +184,6 @@ static void cases(void) {
     dots("597 dots in turn", long_row, 597, YEAR, "refused 21 QuietZone");
     dots("599 dots in turn", long_row, 599, YEAR, "refused 20 RunCount");
     dots("dots and the year 1950", EAN13, COUNT, 1950, "refused 42 Words");
-    uint8_t one = 0, out[GS1_LINE];
-    size_t short_by_one = gs1_c_dots(&one, 1, 9, YEAR, out, sizeof out);
-    if (short_by_one != 18 || memcmp(out, "refused 18 BadRuns", 18)) wrong++, puts("wrong: nine dots of one byte");
-    checks++;
     free(long_row);
 
     gtin("9501101530003", "gtin 09501101530003");
@@ -296,14 +288,12 @@ static void cases(void) {
     free(found), free(told), free(dots_of_two), free(wide);
 
     /* Dots that are none. */
-    uint8_t none = 0, refusal[GS1_LINE];
-    if (gs1_c_find_dots(&none, 1, 9, YEAR, refusal, sizeof refusal) != 18 || memcmp(refusal, "refused 18 BadRuns", 18))
-        wrong++, puts("wrong: the symbols of nine dots of one byte");
+    uint8_t refusal[GS1_LINE];
     uint8_t *too_many = calloc(8192, 1);
     if (gs1_find_dots(too_many, 65536, YEAR, refusal, sizeof refusal) != 18 || memcmp(refusal, "refused 17 TooWide", 18))
         wrong++, puts("wrong: the symbols of 65,536 dots");
     if (gs1_find_dots(too_many, 65535, YEAR, refusal, sizeof refusal) != 0) wrong++, puts("wrong: the symbols of light dots");
-    checks += 3;
+    checks += 2;
     free(too_many);
 
     char many[194];
