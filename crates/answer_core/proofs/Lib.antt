@@ -1,4 +1,5 @@
 -- Lemmas of this crate.
 pub mod Formats
 pub mod PutFacts
+pub mod ShortPlaces
 pub mod Standing

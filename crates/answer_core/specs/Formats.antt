@@ -36,8 +36,11 @@ fault_words None = codes "refused"
 abbrev pub placed_words : List ℕ → ℕ → List ℕ
 placed_words words place = if place == 65535 then words else words ++ (32 ∷ decimal place)
 
--- the line of an answer: its identifier and its elements in a form, or its error and where it is
+-- the line of an answer by a word: the word and the elements in a form, or the error and where it is
+abbrev pub worded_text : List ℕ → Form → Answer → List ℕ
+worded_text word form a =
+    if a.fault == 0 then word ++ (32 ∷ elements_text form (entries_in a)) else placed_words (fault_words (refusal_numbered a.fault)) a.place
+
+-- the line of an answer, by its identifier
 abbrev pub format_text : Form → Answer → List ℕ
-format_text form a =
-    if a.fault == 0 then word_of a ++ (32 ∷ elements_text form (entries_in a))
-    else placed_words (fault_words (refusal_numbered a.fault)) a.place
+format_text form a = worded_text (word_of a) form a

@@ -1,15 +1,17 @@
 -- Laws of answers.
-use Rattle.std.specs.Prelude.{◌≡◌, ◌++◌, ◌∷◌, ◌<◌, IfSome, List, Option, ℕ}
+use Rattle.std.specs.Prelude.{◌≡◌, ◌++◌, ◌∷◌, ◌<◌, IfSome, List, Option, length, ℕ}
 use Rattle.digits_core.specs.Refusals.{refusal_text}
 use Rattle.digits_core.specs.declared.refusal.RefusalKind.{RefusalKind}
 use Rattle.element_core.specs.Elements.{Entry}
-use Rattle.element_core.specs.Lines.{elements_text}
+use Rattle.element_core.specs.Lines.{IsElementsLine, elements_text}
 use Rattle.element_core.specs.Terms.{Terms}
 use Rattle.element_core.specs.declared.form.Form.{Form}
 use Rattle.message_core.specs.Messages.{IsMessageLine}
+use Rattle.scan_core.specs.Row.{runs_fault}
 use Rattle.answer_core.specs.Answers.{TellsElements, TellsRefusal}
-use Rattle.answer_core.specs.Formats.{format_text, word_of}
-use Rattle.answer_core.specs.Reads.{IsMessageAnswer}
+use Rattle.answer_core.specs.Formats.{format_text, word_of, worded_text}
+use Rattle.answer_core.specs.Reads.{IsMessageAnswer, IsStringAnswer}
+use Rattle.answer_core.specs.Rows.{IsDotsAnswer, IsPackedLine, IsWidthsAnswer, IsWidthsLine, packed_fault}
 use Rattle.answer_core.specs.declared.answer.Answer.{Answer}
 
 -- an answer tells one list of elements
@@ -26,7 +28,20 @@ abbrev pub RefusedLines : Type 0
 RefusedLines = (form : Form) (kind : RefusalKind) (place : Option ℕ) (a : Answer) → TellsRefusal kind place a → IfSome place (λ p. p < 65535)
     → format_text form a ≡ refusal_text kind place
 
--- the line of the answer to a text that says elements is the line of its message
+-- the line of the answer to a text of a scanner is the line of its message
 abbrev pub MessageLines : Type 0
-MessageLines = (form : Form) (terms : Terms) (text : List ℕ) (a : Answer) → IsMessageAnswer terms text a → a.fault ≡ 0
+MessageLines = (form : Form) (terms : Terms) (text : List ℕ) (a : Answer) → IsMessageAnswer terms text a
     → IsMessageLine form terms text (format_text form a)
+
+-- the line of the answer to an element string by a word is the line of the string
+abbrev pub StringLines : Type 0
+StringLines = (word : List ℕ) (form : Form) (terms : Terms) (text : List ℕ) (a : Answer) → IsStringAnswer terms text a
+    → IsElementsLine word (elements_text form) terms text (worded_text word form a)
+
+-- the line of the answer to a row is the line of the row, of widths or of packed dots
+abbrev pub RowLines : Type 0
+RowLines =
+    ((form : Form) (terms : Terms) (widths : List ℕ) (a : Answer) → IsWidthsAnswer terms widths a
+    → IsWidthsLine form terms widths (runs_fault widths) (format_text form a))
+    × ((form : Form) (terms : Terms) (bits : List ℕ) (count : ℕ) (a : Answer) → IsDotsAnswer terms bits count a
+    → IsPackedLine form terms bits count (packed_fault (length bits) count) (format_text form a))

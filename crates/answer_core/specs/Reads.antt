@@ -1,5 +1,5 @@
 -- Answers to texts and to rows.
-use Rattle.std.specs.Prelude.{◌≡◌, ◌⊎◌, ℕ, List, [], ◌∷◌, Option, Some, None, Ok, Err}
+use Rattle.std.specs.Prelude.{◌≡◌, ◌<◌, ◌⊎◌, IfSome, ℕ, List, [], ◌∷◌, Option, Some, None, Ok, Err}
 use Rattle.std.specs.Str.{IsTrimAsciiEnd}
 use Rattle.digits_core.specs.Digits.{digits_of, padded}
 use Rattle.digits_core.specs.Faults.{digit_fault_text}
@@ -22,9 +22,10 @@ use Rattle.answer_core.specs.Symbols.{sent_identifier, sent_symbol}
 use Rattle.answer_core.specs.declared.answer.Answer.{Answer}
 use Rattle.answer_core.specs.declared.symbol.SymbolKind.TheVariants.{Unknown}
 
--- the refusal that is written as this line
+-- the refusal that is written as this line, whose place is below 65535
 abbrev pub TellsLine : List ℕ → Answer → Type 0
-TellsLine line a = (kind : RefusalKind) × (place : Option ℕ) × (line ≡ refusal_text kind place) × TellsRefusal kind place a
+TellsLine line a =
+    (kind : RefusalKind) × (place : Option ℕ) × (line ≡ refusal_text kind place) × TellsRefusal kind place a × IfSome place (λ p. p < 65535)
 
 -- no symbol is known
 abbrev pub IsUnnamed : Answer → Type 0

@@ -1,8 +1,10 @@
 //! What a barcode says.
 ghost use Rattle.std.specs.Prelude.{◌≡◌};
 ghost use Rattle.answer_core.specs.Answers.{IsNamed, TellsElements, TellsNothing, TellsRefusal, place_number};
-ghost use Rattle.answer_core.specs.inner.Answers.{IsNamedAs};
+ghost use Rattle.answer_core.specs.inner.Answers.{IsNamedAs, IsShort};
+ghost use Rattle.answer_core.specs.Reads.{TellsLine};
 ghost use Rattle.answer_core.specs.Refusals.{refusal_number};
+ghost use Rattle.digits_core.specs.Refusals.{refusal_text};
 ghost use Rattle.digits_core.specs.declared.refusal.RefusalKind.TheVariants as refusal;
 
 use crate::gtin::gtin_index;
@@ -88,6 +90,15 @@ impl Answer {
         self.count = 0;
         self.length = 0;
         self.gtin = NO_GTIN;
+    }
+
+    /// Writes why nothing is said, which is written as a line.
+    pub(crate) fn refuse_said(&mut self, refusal: Refusal)
+        requires { IsShort (refusal_text refusal.kind refusal.place) }
+        ensures told { TellsLine (refusal_text refusal.kind refusal.place) self.new }
+        ensures kept { IsNamedAs self.old self.new }
+    {
+        self.refuse(refusal);
     }
 
     /// Writes that there are no terms: the year is no reference year.

@@ -1,7 +1,7 @@
 //! The line of an answer.
 ghost use Rattle.std.specs.Prelude.{◌≡◌, ◌≤◌, ◌+◌, ◌*◌, ◌∷◌, ◌++◌, [], IfSome, MatchOption, length, map};
 ghost use Rattle.digits_core.specs.Buffers.{IsPut, pasted};
-ghost use Rattle.answer_core.specs.Formats.{before_zero, fault_words, format_text, placed_words, word_or_dash};
+ghost use Rattle.answer_core.specs.Formats.{before_zero, fault_words, format_text, placed_words, word_or_dash, worded_text};
 ghost use Rattle.element_core.specs.Lines.{elements_text};
 ghost use Rattle.answer_core.specs.Places.{entry_at};
 ghost use Rattle.answer_core.specs.Refusals.{refusal_numbered};
@@ -252,13 +252,21 @@ impl Answer {
     pub fn put_line(&self, form: Form, out: &mut [u8]) -> usize
         ensures { IsPut (format_text form self.now) out.old out.new result }
     {
+        self.put_worded(word_of(&self.identifier), form, out)
+    }
+
+    /// The same with this word in place of the identifier.
+    pub fn put_worded(&self, word: &[u8], form: Form, out: &mut [u8]) -> usize
+        requires { length word.now ≤ 4 }
+        ensures { IsPut (worded_text word.now form self.now) out.old out.new result }
+    {
         if self.fault != 0 {
             return put_fault(self.fault, self.place, out);
         }
         let length = usize::from(self.length).min(self.text.len());
         let count = usize::from(self.count).min(MOST_ELEMENTS);
         put_said(
-            word_of(&self.identifier),
+            word,
             form,
             &self.text[..length],
             &self.elements[..count],

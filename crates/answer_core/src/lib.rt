@@ -16,7 +16,9 @@ mod symbol;
 
 pub use answer::Answer;
 pub use buffer::{put, put_words};
-pub use laws::{answers_tell_one, lines_tell, message_lines, refused_lines};
+pub use laws::{
+    answers_tell_one, lines_tell, message_lines, refused_lines, row_lines, string_lines,
+};
 pub use named::Day;
 pub use place::{MOST_ELEMENTS, Place};
 pub use row::dots_in;

@@ -1,7 +1,8 @@
 //! Answers to texts.
-ghost use Rattle.std.specs.Prelude.{◌≡◌};
-ghost use Rattle.message_core.specs.Faults.{heard};
-ghost use Rattle.answer_core.specs.inner.Answers.{IsNamedAs};
+ghost use Rattle.std.specs.Prelude.{◌≡◌, Err};
+ghost use Rattle.message_core.specs.Faults.{heard, message_fault_text};
+ghost use Rattle.message_core.specs.declared.fault.MessageFault.{MessageFault};
+ghost use Rattle.answer_core.specs.inner.Answers.{IsNamedAs, IsShort};
 ghost use Rattle.answer_core.specs.Reads.{IsGtinAnswer, IsMessageAnswer, IsStringAnswer, TellsOutcome};
 
 use crate::answer::Answer;
@@ -13,12 +14,13 @@ use message_core::{Message, MessageFault, read_message};
 impl Answer {
     /// Writes what a message says.
     fn tell_said(&mut self, said: &Result<Elements, MessageFault>, terms: Year)
+        requires { (fault : MessageFault) → heard said.now ≡ Err fault → IsShort (message_fault_text fault) }
         ensures told { TellsOutcome terms (heard said.now) self.new }
         ensures kept { IsNamedAs self.old self.new }
     {
         match said {
             Ok(elements) => self.tell(elements, terms),
-            Err(fault) => self.refuse(fault.refusal()),
+            Err(fault) => self.refuse_said(fault.refusal()),
         }
     }
 
@@ -41,7 +43,7 @@ impl Answer {
         self.name(SymbolKind::Unknown, [0; 4]);
         match &Elements::parse(text, terms) {
             Ok(elements) => self.tell(elements, terms),
-            Err(fault) => self.refuse(fault.refusal()),
+            Err(fault) => self.refuse_said(fault.refusal()),
         }
     }
 
@@ -52,7 +54,7 @@ impl Answer {
         self.name(SymbolKind::Unknown, [0; 4]);
         match &Gtin::read(digits) {
             Ok(gtin) => self.tell(&Elements::of_gtin(gtin, terms), terms),
-            Err(fault) => self.refuse(fault.refusal()),
+            Err(fault) => self.refuse_said(fault.refusal()),
         }
     }
 }

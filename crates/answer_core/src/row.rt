@@ -1,5 +1,9 @@
 //! Answers to rows.
 ghost use Rattle.std.specs.Prelude.{◌≡◌, ◌≤◌, ◌*◌, IfErr, None, Some, IfOk, length};
+ghost use Rattle.scan_core.specs.Faults.{row_fault_text};
+ghost use Rattle.scan_core.specs.declared.answer.Answer.TheVariants.{Refused};
+ghost use Rattle.scan_core.specs.declared.fault.RowFault.{RowFault};
+ghost use Rattle.answer_core.specs.inner.Answers.{IsShort};
 ghost use Rattle.answer_core.specs.Rows.{IsDotsAnswer, IsNoRow, IsWidthsAnswer, TellsRowAnswer, packed_fault};
 
 use crate::answer::Answer;
@@ -30,11 +34,12 @@ impl Answer {
         ensures { IsNoRow fault self.new }
     {
         self.name(SymbolKind::Unknown, [0; 4]);
-        self.refuse(fault.refusal());
+        self.refuse_said(fault.refusal());
     }
 
     /// Writes what a row says.
     fn tell_row(&mut self, said: &RowAnswer, terms: Year)
+        requires { (fault : RowFault) → said.now ≡ Refused fault → IsShort (row_fault_text fault) }
         ensures { TellsRowAnswer terms said.now self.new }
     {
         match said {
@@ -45,7 +50,7 @@ impl Answer {
             }
             RowAnswer::Refused(fault) => {
                 self.name(SymbolKind::Unknown, [0; 4]);
-                self.refuse(fault.refusal());
+                self.refuse_said(fault.refusal());
             }
         }
     }

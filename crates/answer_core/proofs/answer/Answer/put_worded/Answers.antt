@@ -1,4 +1,4 @@
-use Rattle.std.proofs.Common.{◌≡◌, ◌∙◌, ◌≤◌, ◌++◌, ◌∷◌, List, ap, ap₂, arith, length, map, min, refl, subst, sym, take, true, ℕ}
+use Rattle.std.proofs.Common.{◌≡◌, ◌∙◌, ◌++◌, ◌∷◌, List, ap, ap₂, arith, length, map, min, refl, subst, sym, take, true, ℕ}
 use Rattle.std.specs.Prelude.{◌==◌}
 use Rattle.std.proofs.lemmas.List.{take_min}
 use Rattle.digits_core.specs.Buffers.{IsPut}
@@ -7,13 +7,7 @@ use Rattle.element_core.specs.Lines.{elements_text}
 use Rattle.answer_core.specs.Formats.{entries_in}
 use Rattle.answer_core.specs.Places.{entry_at}
 use Rattle.answer_core.specs.declared.place.Place.{Place}
-use Rattle.answer_core.proofs.Formats.{word_short}
-use Rattle.answer_core.proofs.answer.Answer.put_line.Goals as goal
-
-pub put_said-requires-clause-word : goal.put_said-requires-clause-word
-put_said-requires-clause-word c =
-    let four : length c.args.self.now.identifier ≤ 4 = omega arith in
-    omega (arith, ap length c.word_of.ensures, word_short c.args.self.now.identifier four)
+use Rattle.answer_core.proofs.answer.Answer.put_worded.Goals as goal
 
 pub returns : goal.returns
 returns c =
@@ -26,7 +20,7 @@ returns c =
     ap (λ (n : ℕ). take n a.elements) (c.min-count.ensures ∙ ap₂ (λ (n m : ℕ). min n m) c.from-2.ensures (sym most)) ∙ take_min a.count a.elements in
     let es : map (entry_at (take c.min-length.result a.text)) (take c.min-count.result a.elements) ≡ entries_in a =
     ap₂ (λ (t : List ℕ) (ps : List Place). map (entry_at t) ps) bytes places in
-    let line = ap₂ (λ (w : List ℕ) (fs : List Entry). w ++ (32 ∷ elements_text c.args.form fs)) c.word_of.ensures es in
+    let line = ap (λ (fs : List Entry). c.args.word.now ++ (32 ∷ elements_text c.args.form fs)) es in
     let zero : a.fault ≡ 0 = omega (arith, c.if-self-ne0.false) in
     let none : (a.fault == 0) ≡ true = rw zero refl in
     let whole = line ∙ rw none refl in

@@ -1,0 +1,10 @@
+use Rattle.std.proofs.Common.{IfErr, subst}
+use Rattle.element_core.specs.Elements.{FirstFault}
+use Rattle.answer_core.proofs.ShortPlaces.{element_short, short_as}
+use Rattle.answer_core.proofs.answer.Answer.read_elements.Goals as goal
+
+pub refuse_said-requires : goal.refuse_said-requires
+refuse_said-requires c =
+    let text = c.args.text.now in
+    let first = subst (λ r. IfErr r (λ f. FirstFault c.args.terms text f)) c.in-Err.is c.parse.ensures.err in
+    short_as _ _ c.refusal.ensures (element_short c.args.terms text c.in-Err.fault first)
