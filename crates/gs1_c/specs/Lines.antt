@@ -5,14 +5,8 @@ use Rattle.digits_core.specs.declared.refusal.RefusalKind.TheVariants as refusal
 use Rattle.element_core.specs.Lines.{IsElementsLine, elements_text}
 use Rattle.element_core.specs.Terms.{Terms}
 use Rattle.element_core.specs.declared.form.Form.{Form}
-use Rattle.scan_core.specs.Answers.{IsAnswer}
-use Rattle.scan_core.specs.Faults.{run_fault_text}
-use Rattle.scan_core.specs.Lines.{said}
-use Rattle.scan_core.specs.Bits.{dots_at}
-use Rattle.scan_core.specs.Row.{IsRow, dots_of, runs_fault}
-use Rattle.scan_core.specs.declared.answer.Answer.{Answer}
-use Rattle.scan_core.specs.declared.fault.RunFault.{RunFault}
-pub use Rattle.answer_core.specs.Rows.{packed_fault}
+use Rattle.scan_core.specs.Row.{runs_fault}
+pub use Rattle.answer_core.specs.Rows.{IsPackedLine, IsWidthsLine, packed_fault}
 
 -- a reference year, 1951 to 2149, and whether every AI is read
 abbrev pub year_terms : Bool → ℕ → Option Terms
@@ -43,25 +37,11 @@ IsTextLine word form number text line = IsLineUnder number (λ terms. IsElements
 
 -- ---- rows
 
--- the line of widths by their fault, under a reference year: the answer to their row, or why they are none
-abbrev pub IsWidthsLine : Form → Terms → List ℕ → Option RunFault → List ℕ → Type 0
-IsWidthsLine form year widths None line = (a : Answer) × IsAnswer widths year a × (line ≡ said form a)
-IsWidthsLine form year widths (Some fault) line = line ≡ run_fault_text fault
-
 -- the line of widths, the elements in a form
 abbrev pub IsRowLine : Form → ℕ → List ℕ → List ℕ → Type 0
 IsRowLine form number widths line = IsLineUnder number (λ terms. IsWidthsLine form terms widths (runs_fault widths)) line
 
 -- ---- packed dots
-
--- the answer to the row whose dots these are, under a reference year
-abbrev pub IsPackedAnswer : Terms → List ℕ → ℕ → Answer → Type 0
-IsPackedAnswer year bits count a = (runs : List ℕ) × IsRow runs × (dots_of runs ≡ dots_at bits 0 count) × IsAnswer runs year a
-
--- the line of this many packed dots by their fault, under a reference year
-abbrev pub IsPackedLine : Form → Terms → List ℕ → ℕ → Option RunFault → List ℕ → Type 0
-IsPackedLine form year bits count None line = (a : Answer) × IsPackedAnswer year bits count a × (line ≡ said form a)
-IsPackedLine form year bits count (Some fault) line = line ≡ run_fault_text fault
 
 -- the line of packed dots, the elements in a form
 abbrev pub IsDotsLine : Form → ℕ → List ℕ → ℕ → List ℕ → Type 0

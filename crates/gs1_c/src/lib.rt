@@ -39,24 +39,23 @@ mod tests;
 mod titles;
 mod value;
 
-use answer::{find_packed, put_found};
-use answer_core::put;
+use answer::{put_dots, put_row, put_text};
+use answer_core::{Answer, put};
 use buffer::{put_line, put_refusal, put_refused};
 use dates::put_date;
 use digits_core::RefusalKind;
-use element_core::{Form, digit_line, elements_line, gtin_line};
+use element_core::{Form, digit_line, gtin_line};
 use found::{put_dot_symbols, put_symbols};
 use label::{kind_numbered, put_image};
-use message_core::message_line;
 use next::{ElementPlace, first_element};
 use picture::{given_level, put_picture};
 use picture_core::{Reading, words_for};
-use scan_core::find_widths;
 use sheet_core::Grid;
 use status::status_of;
 use symbol::put_symbol;
 use terms::terms_of;
 use titles::title_of;
+use value::gs1_c_read_message;
 
 /// The GTIN, in 14 digits, of its 8, 12, 13 or 14 (GS1 General Specifications, section 7.9), as
 /// `gtin 09501101530003`; or why it is none.
@@ -83,11 +82,7 @@ pub extern "C" fn gs1_c_digit(text: &[u8], out: &mut [u8]) -> usize
 pub extern "C" fn gs1_c_text(text: &[u8], year: u16, out: &mut [u8]) -> usize
     ensures { (line : List ℕ) × IsTextLine (codes "hri") Form.HumanReadable year text.now line × IsPut line out.old out.new result }
 {
-    let Some(terms) = terms_of(year) else {
-        return put_refused(RefusalKind::Words, out);
-    };
-    let line = elements_line("hri", Form::HumanReadable, text, terms);
-    put_line(&line, out)
+    put_text(b"hri", text, year, Form::HumanReadable, out)
 }
 
 /// What a row says, given as the widths of its runs in dots, light and dark in turn, light first and
@@ -98,10 +93,7 @@ pub extern "C" fn gs1_c_text(text: &[u8], year: u16, out: &mut [u8]) -> usize
 pub extern "C" fn gs1_c_row(widths: &[u16], year: u16, out: &mut [u8]) -> usize
     ensures { (line : List ℕ) × IsRowLine Form.HumanReadable year widths.now line × IsPut line out.old out.new result }
 {
-    let Some(terms) = terms_of(year) else {
-        return put_refused(RefusalKind::Words, out);
-    };
-    put_found(&find_widths(widths), terms, Form::HumanReadable, out)
+    put_row(widths, year, Form::HumanReadable, out)
 }
 
 /// What a row says, as `gs1_c_row`, with the elements as data: of each its AI, `=` and its value, with a tab
@@ -110,10 +102,7 @@ pub extern "C" fn gs1_c_row(widths: &[u16], year: u16, out: &mut [u8]) -> usize
 pub extern "C" fn gs1_c_row_elements(widths: &[u16], year: u16, out: &mut [u8]) -> usize
     ensures { (line : List ℕ) × IsRowLine Form.Pairs year widths.now line × IsPut line out.old out.new result }
 {
-    let Some(terms) = terms_of(year) else {
-        return put_refused(RefusalKind::Words, out);
-    };
-    put_found(&find_widths(widths), terms, Form::Pairs, out)
+    put_row(widths, year, Form::Pairs, out)
 }
 
 /// The elements of an element string, as `gs1_c_text`, as data: of each its AI, `=` and its value, with a tab
@@ -122,10 +111,7 @@ pub extern "C" fn gs1_c_row_elements(widths: &[u16], year: u16, out: &mut [u8]) 
 pub extern "C" fn gs1_c_text_elements(text: &[u8], year: u16, out: &mut [u8]) -> usize
     ensures { (line : List ℕ) × IsTextLine (codes "data") Form.Pairs year text.now line × IsPut line out.old out.new result }
 {
-    let Some(terms) = terms_of(year) else {
-        return put_refused(RefusalKind::Words, out);
-    };
-    put_line(&elements_line("data", Form::Pairs, text, terms), out)
+    put_text(b"data", text, year, Form::Pairs, out)
 }
 
 /// The day and the time that an element names, given as its AI, `=` and its value, as `gs1_c_row_elements` has
@@ -154,10 +140,9 @@ pub extern "C" fn gs1_c_date(text: &[u8], year: u16, out: &mut [u8]) -> usize
 pub extern "C" fn gs1_c_scan(text: &[u8], year: u16, out: &mut [u8]) -> usize
     ensures { (line : List ℕ) × IsScanLine year text.now line × IsPut line out.old out.new result }
 {
-    let Some(terms) = terms_of(year) else {
-        return put_refused(RefusalKind::Words, out);
-    };
-    put_line(&message_line(Form::Pairs, text, terms), out)
+    let mut answer = Answer::new();
+    gs1_c_read_message(text, year, &mut answer);
+    answer.put_line(Form::Pairs, out)
 }
 
 /// Every symbol of a row, given as `gs1_c_row` takes it: of each window of its runs that begins and ends
@@ -184,10 +169,7 @@ pub extern "C" fn gs1_c_find(widths: &[u16], year: u16, out: &mut [u8]) -> usize
 pub extern "C" fn gs1_c_dots(bits: &[u8], count: u32, year: u16, out: &mut [u8]) -> usize
     ensures { (line : List ℕ) × IsDotsLine Form.HumanReadable year bits.now count line × IsPut line out.old out.new result }
 {
-    let Some(terms) = terms_of(year) else {
-        return put_refused(RefusalKind::Words, out);
-    };
-    put_found(&find_packed(bits, count), terms, Form::HumanReadable, out)
+    put_dots(bits, count, year, Form::HumanReadable, out)
 }
 
 /// What a row of packed dots says, as `gs1_c_dots`, with the elements as data, as in `gs1_c_row_elements`.
@@ -195,10 +177,7 @@ pub extern "C" fn gs1_c_dots(bits: &[u8], count: u32, year: u16, out: &mut [u8])
 pub extern "C" fn gs1_c_dots_elements(bits: &[u8], count: u32, year: u16, out: &mut [u8]) -> usize
     ensures { (line : List ℕ) × IsDotsLine Form.Pairs year bits.now count line × IsPut line out.old out.new result }
 {
-    let Some(terms) = terms_of(year) else {
-        return put_refused(RefusalKind::Words, out);
-    };
-    put_found(&find_packed(bits, count), terms, Form::Pairs, out)
+    put_dots(bits, count, year, Form::Pairs, out)
 }
 
 /// Every symbol of a row of `count` packed dots, given as `gs1_c_dots` takes them: the lines of `gs1_c_find` of the
