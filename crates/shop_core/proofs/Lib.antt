@@ -1,0 +1,4 @@
+pub mod BarFacts
+pub mod CheckFacts
+pub mod RowFacts
+pub mod SaidFacts

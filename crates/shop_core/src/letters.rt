@@ -1,0 +1,455 @@
+//! How texts fill lines. Lengths are dots.
+
+use crate::fault::LabelFault;
+use crate::look::is_within;
+use crate::part::is_blank;
+use arrayvec::ArrayVec;
+use std::num::nearest_usize_to_f64;
+
+/// The most lines of a block.
+const MOST_LINES: usize = 3;
+
+/// A longer text has no room on any label.
+const MOST_LETTERS: usize = 300;
+
+const ELLIPSIS: u32 = 0x2026;
+
+const FEED: u32 = 10;
+
+const SPACE: u32 = 32;
+
+/// The measures of a font, in 1/16,384 of its size.
+#[repr(C)]
+#[derive(Clone, Copy)]
+pub struct Font<'a> {
+    /// The widths of its letters by their code points; 0 of a letter that it lacks.
+    pub widths: &'a [u16],
+    /// The width of its sign for letters it lacks.
+    pub other: u16,
+    /// How far its letters go up above their base line, and how far down below it; together at least half a size.
+    pub ascent: u16,
+    pub descent: u16,
+    /// How far its digits go up.
+    pub digits: u16,
+}
+
+/// The fonts of labels.
+#[repr(C)]
+#[derive(Clone, Copy)]
+pub struct Fonts<'a> {
+    pub regular: Font<'a>,
+    pub bold: Font<'a>,
+}
+
+/// Letters from one on and before another.
+#[derive(Clone, Copy, Default)]
+pub(crate) struct Span {
+    pub(crate) from: usize,
+    pub(crate) end: usize,
+}
+
+/// Where lines of a text may end.
+#[derive(Clone, Copy, PartialEq, Eq)]
+pub(crate) enum Breaks {
+    /// At blanks, and behind hyphens.
+    Blanks,
+    /// In front of an opening parenthesis, with which each element begins.
+    Elements,
+}
+
+/// A text, and how it is set.
+#[derive(Clone, Copy)]
+pub(crate) struct Setting<'a> {
+    pub(crate) text: &'a [u32],
+    pub(crate) font: Font<'a>,
+    pub(crate) is_bold: bool,
+    pub(crate) breaks: Breaks,
+}
+
+/// Sizes of a text, and the most lines that it may have.
+#[derive(Clone, Copy)]
+pub(crate) struct Sizes {
+    pub(crate) largest: f64,
+    pub(crate) smallest: f64,
+    pub(crate) lines: u8,
+}
+
+/// Lines of a text in one size, and whether something of it is left out.
+#[derive(Drop)]
+pub(crate) struct Block<'a> {
+    pub(crate) setting: Setting<'a>,
+    pub(crate) lines: ArrayVec<Span, MOST_LINES>,
+    pub(crate) size: f64,
+    pub(crate) is_cut: bool,
+}
+
+/// Lines that were filled: the first of them, how many there are, and the width of the widest.
+#[derive(Drop)]
+struct Filled {
+    lines: ArrayVec<Span, MOST_LINES>,
+    count: usize,
+    widest: f64,
+}
+
+/// A letter of a text. Behind its end is the end of a line.
+fn letter(text: &[u32], place: usize) -> u32 {
+    match text.get(place) {
+        Some(letter) => *letter,
+        None => FEED,
+    }
+}
+
+fn is_digit(letter: u32) -> bool {
+    48 <= letter && letter <= 57
+}
+
+/// Whether a hyphen in front of this letter may end a line.
+fn begins_word(letter: u32) -> bool {
+    is_digit(letter)
+        || (65 <= letter && letter <= 90)
+        || (97 <= letter && letter <= 122)
+        || letter > 127
+}
+
+/// Whether a line may end at this blank. None ends between a number and its unit of one or two letters.
+fn is_gap(text: &[u32], place: usize) -> bool {
+    let here = letter(text, place);
+    if here == 9 {
+        return true;
+    }
+    if here != SPACE {
+        return false;
+    }
+    let is_behind_digit = place > 0 && is_digit(letter(text, place - 1));
+    let next = letter(text, place.saturating_add(1));
+    let second = letter(text, place.saturating_add(2));
+    let third = letter(text, place.saturating_add(3));
+    let begins_unit = !is_blank(next) && !is_digit(next);
+    let ends_unit = is_blank(second) || (!is_digit(second) && is_blank(third));
+    !(is_behind_digit && begins_unit && ends_unit)
+}
+
+/// The first place from one on that has a blank or the end of a line, or if asked a hyphen.
+fn word_end(text: &[u32], from: usize, at_hyphen: bool) -> usize {
+    for place in from..text.len() {
+        let here = letter(text, place);
+        if here == FEED || is_gap(text, place) || (at_hyphen && here == 45) {
+            return place;
+        }
+    }
+    from.max(text.len())
+}
+
+/// The first place from one on that has no hyphen.
+fn hyphens_end(text: &[u32], from: usize) -> usize {
+    for place in from..text.len() {
+        if letter(text, place) != 45 {
+            return place;
+        }
+    }
+    from.max(text.len())
+}
+
+/// The first place from one on that has no blank.
+fn gaps_end(text: &[u32], from: usize) -> usize {
+    for place in from..text.len() {
+        if !is_gap(text, place) {
+            return place;
+        }
+    }
+    from.max(text.len())
+}
+
+/// Where the element from a place on ends: in front of the next opening parenthesis.
+fn element_end(text: &[u32], from: usize) -> usize {
+    for place in from.saturating_add(1)..text.len() {
+        if letter(text, place) == 40 {
+            return place;
+        }
+    }
+    text.len()
+}
+
+/// The end of the word from a place on, and that of the blanks behind it. A hyphen ends a word too, if a letter
+/// follows.
+fn word(text: &[u32], from: usize) -> Span {
+    let hyphen = word_end(text, from, true);
+    let behind = hyphens_end(text, hyphen);
+    if hyphen < behind && begins_word(letter(text, behind)) {
+        return Span {
+            from: behind,
+            end: behind,
+        };
+    }
+    let end = word_end(text, from, false);
+    Span {
+        from: end,
+        end: gaps_end(text, end),
+    }
+}
+
+impl<'a> Font<'a> {
+    /// How wide a letter is, in sizes.
+    fn letter_width(&self, letter: u32) -> f64 {
+        let width = match self.widths.get(letter as usize) {
+            Some(0) | None => self.other,
+            Some(width) => *width,
+        };
+        f64::from(u32::from(width)) / 16_384.0
+    }
+
+    /// How wide letters of a text are, in sizes.
+    pub(crate) fn width(&self, text: &[u32], from: usize, end: usize) -> f64 {
+        let mut width = 0.0;
+        for place in from..end.min(text.len()) {
+            width += self.letter_width(letter(text, place));
+        }
+        width
+    }
+
+    /// How far its letters go up, in sizes.
+    pub(crate) fn rise(&self) -> f64 {
+        f64::from(self.ascent) / 16_384.0
+    }
+
+    /// The distance of lines, in sizes.
+    pub(crate) fn pitch(&self) -> f64 {
+        (f64::from(self.ascent) + f64::from(self.descent)) / 16_384.0
+    }
+
+    fn check(&self) -> Result<(), LabelFault> {
+        if is_within(0.5, self.pitch(), 8.0) && self.digits > 0 {
+            Ok(())
+        } else {
+            Err(LabelFault::Measures)
+        }
+    }
+}
+
+impl<'a> Fonts<'a> {
+    /// Whether their measures are possible.
+    pub(crate) fn check(&self) -> Result<(), LabelFault> {
+        self.regular.check()?;
+        self.bold.check()
+    }
+}
+
+impl Filled {
+    fn new() -> Filled {
+        Filled {
+            lines: ArrayVec::new(),
+            count: 0,
+            widest: 0.0,
+        }
+    }
+
+    /// Adds a line, unless it is empty.
+    fn add(&mut self, from: usize, end: usize) {
+        if from < end {
+            let _ = self.lines.try_push(Span { from, end });
+            self.count = self.count.saturating_add(1);
+        }
+    }
+}
+
+impl<'a> Setting<'a> {
+    /// The end of the word from a place on, and that of the blanks behind it.
+    fn word(&self, from: usize) -> Span {
+        match self.breaks {
+            Breaks::Blanks => word(self.text, from),
+            Breaks::Elements => {
+                let end = element_end(self.text, from);
+                Span { from: end, end }
+            }
+        }
+    }
+
+    /// How wide the letters of a span are, in sizes.
+    pub(crate) fn width(&self, from: usize, end: usize) -> f64 {
+        self.font.width(self.text, from, end)
+    }
+
+    /// The room between two elements of a line when lines are filled.
+    fn gap(&self) -> f64 {
+        match self.breaks {
+            Breaks::Blanks => 0.0,
+            Breaks::Elements => self.font.letter_width(SPACE),
+        }
+    }
+
+    /// Lines with as many words each as have room.
+    fn fill(&self, width: f64) -> Filled {
+        let mut filled = Filled::new();
+        let mut place = 0usize;
+        let mut from = 0usize;
+        let mut end = 0usize;
+        let mut at = 0.0f64;
+        for _ in 0..self.text.len() {
+            if self.text.len() <= place {
+                break;
+            }
+            if letter(self.text, place) == FEED {
+                filled.add(from, end);
+                place = place.saturating_add(1);
+                from = place;
+                end = place;
+                at = 0.0;
+                continue;
+            }
+            let word = self.word(place);
+            let bare = self.width(place, word.from);
+            if at > 0.0 && at + bare > width {
+                filled.add(from, end);
+                from = place;
+                at = 0.0;
+            }
+            filled.widest = filled.widest.max(at + bare);
+            end = word.from;
+            at += bare + self.width(word.from, word.end) + self.gap();
+            place = word.end;
+        }
+        filled.add(from, end);
+        filled
+    }
+
+    /// Lines in which a word that is too long is cut into pieces that have room.
+    fn broken(&self, lines: &Filled, width: f64) -> Filled {
+        let mut pieces = Filled::new();
+        for line in lines.lines.as_slice() {
+            let mut from = line.from;
+            let mut at = 0.0f64;
+            for place in line.from..line.end {
+                let wide = self.font.letter_width(letter(self.text, place));
+                if from < place && at + wide > width {
+                    pieces.add(from, place);
+                    from = place;
+                    at = 0.0;
+                }
+                at += wide;
+            }
+            pieces.add(from, line.end);
+        }
+        pieces.count = pieces.count.max(lines.count);
+        pieces
+    }
+
+    /// The part of a line that has room with an ellipsis behind it.
+    fn shortened(&self, line: Span, width: f64) -> Span {
+        let mut end = line.end;
+        for _ in line.from..line.end {
+            let is_wide = self.width(line.from, end) + self.ellipsis() > width;
+            let is_gap = end > 0 && is_blank(letter(self.text, end - 1));
+            if line.from < end && (is_wide || is_gap) {
+                end -= 1;
+            }
+        }
+        Span {
+            from: line.from,
+            end,
+        }
+    }
+
+    pub(crate) fn ellipsis(&self) -> f64 {
+        self.font.letter_width(ELLIPSIS)
+    }
+
+    /// The lines of the largest of these sizes in which a text has at most so many.
+    fn in_lines(&self, width: f64, largest: f64, smallest: f64, most: u8) -> Option<Block<'a>> {
+        let mut size = largest;
+        for _ in 0..200u8 {
+            if size < smallest {
+                return None;
+            }
+            let lines = self.fill(width / size);
+            // A size that just fits may be rounded up.
+            if lines.count <= usize::from(most) && lines.widest <= width / size + 1e-6 {
+                return Some(Block {
+                    setting: *self,
+                    lines: lines.lines,
+                    size,
+                    is_cut: false,
+                });
+            }
+            size *= 0.97;
+        }
+        None
+    }
+
+    /// The text in few lines of this width. It takes one more line only if the size would otherwise be below three
+    /// quarters of the largest. What has no room in the smallest size is cut.
+    pub(crate) fn fitted(&self, width: f64, sizes: Sizes) -> Block<'a> {
+        if self.text.len() > MOST_LETTERS {
+            return self.cut(width, sizes);
+        }
+        for count in 1..=sizes.lines.min(3) {
+            let least = if count == sizes.lines {
+                sizes.smallest
+            } else {
+                sizes.smallest.max(0.75 * sizes.largest)
+            };
+            if let Some(block) = self.in_lines(width, sizes.largest, least, count) {
+                return block;
+            }
+        }
+        self.cut(width, sizes)
+    }
+
+    /// The text in its smallest size, cut if it has no room.
+    fn cut(&self, width: f64, sizes: Sizes) -> Block<'a> {
+        let front = Setting {
+            text: &self.text[..self.text.len().min(MOST_LETTERS)],
+            ..*self
+        };
+        let size = sizes.smallest;
+        let most = usize::from(sizes.lines);
+        let pieces = front.broken(&front.fill(width / size), width / size);
+        let is_cut = self.text.len() > MOST_LETTERS || pieces.count > most;
+        let mut lines = pieces.lines;
+        if is_cut {
+            lines.truncate(most);
+            if let Some(last) = lines.pop() {
+                lines.push(front.shortened(last, width / size));
+            }
+        }
+        Block {
+            setting: front,
+            lines,
+            size,
+            is_cut,
+        }
+    }
+}
+
+impl<'a> Block<'a> {
+    /// How high its lines are.
+    pub(crate) fn height(&self) -> f64 {
+        nearest_usize_to_f64(self.lines.len()) * self.size * self.setting.font.pitch()
+    }
+
+    /// How wide a line is, with the ellipsis behind the last if it is cut.
+    pub(crate) fn line_width(&self, number: usize) -> f64 {
+        let Some(line) = self.lines.as_slice().get(number) else {
+            return 0.0;
+        };
+        let wide = self.size * self.setting.width(line.from, line.end);
+        if self.is_cut_line(number) {
+            wide + self.size * self.setting.ellipsis()
+        } else {
+            wide
+        }
+    }
+
+    /// Whether an ellipsis follows a line.
+    pub(crate) fn is_cut_line(&self, number: usize) -> bool {
+        self.is_cut && number.saturating_add(1) == self.lines.len()
+    }
+
+    /// How wide its widest line is.
+    pub(crate) fn width(&self) -> f64 {
+        let mut widest = 0.0f64;
+        for number in 0..self.lines.len() {
+            widest = widest.max(self.line_width(number));
+        }
+        widest
+    }
+}

@@ -1,0 +1,129 @@
+//! The look whose price comes first. Lengths are dots.
+
+use crate::fault::LabelFault;
+use crate::form::bars_mm;
+use crate::layout::{LEAST_PRICE_MM, Sheet};
+use crate::letters::Sizes;
+use crate::part::Field;
+use crate::placing::{Align, Column, Parts};
+use crate::plan::between;
+use crate::small::{small_sizes, whole};
+use crate::symbol_parts::{GAP_MM, Rows};
+
+/// The least room beside the bars that further texts have in a label whose price is first.
+const LEAST_SIDE_MM: f64 = 8.0;
+
+impl<'a> Sheet<'a> {
+    /// Puts the price at the lower end of a band, as large as there is room, and the price before left of it.
+    pub(crate) fn put_large_price(
+        &self,
+        parts: &mut Parts,
+        top: f64,
+        bottom: f64,
+    ) -> Result<(), LabelFault> {
+        let room = bottom - top;
+        let font = self.plan.fonts.bold;
+        let text = self.item.article.text(Field::Price);
+        let share = if self.has(Field::OldPrice) {
+            0.66
+        } else {
+            0.99
+        };
+        let wide = self.room() * share / font.width(text, 0, text.len());
+        let price = self.price(self.room(), wide.min(room / font.pitch()), LEAST_PRICE_MM);
+        if price.height() > room {
+            return Err(LabelFault::NoPlace);
+        }
+        let column = self.across(Align::Right);
+        whole(Field::Price).put(parts, &price, column, bottom - price.height())?;
+        let width = self.room() - price.width() - self.dots();
+        let old = self.old_price(width, (0.42 * price.size).max(1.7 * self.dots()));
+        let beside = Column {
+            left: self.aside(),
+            width,
+            align: Align::Left,
+        };
+        whole(Field::OldPrice).put(parts, &old, beside, bottom - old.height())?;
+        Ok(())
+    }
+
+    /// The sizes of small texts of which as many as can be have room in a column of this height, and how many have.
+    pub(crate) fn beside(&self, width: f64, high: f64, largest: f64) -> (usize, Sizes) {
+        let least = largest.min(1.7 * self.dots());
+        let mut size = largest;
+        for _ in 0..40u8 {
+            let sizes = small_sizes(size, least);
+            if size <= least || self.smalls_height(self.smalls.as_slice(), width, sizes) <= high {
+                break;
+            }
+            size = (0.9 * size).max(least);
+        }
+        let sizes = small_sizes(size, least);
+        let mut count = 0usize;
+        for number in 1..=self.smalls.len() {
+            if self.smalls_height(self.first(number), width, sizes) <= high {
+                count = number;
+            }
+        }
+        if width > LEAST_SIDE_MM * self.dots() {
+            (count, sizes)
+        } else {
+            (0, sizes)
+        }
+    }
+
+    /// Puts the name at the upper end, and returns where it ends.
+    fn put_large_name(&self, parts: &mut Parts) -> Result<f64, LabelFault> {
+        let largest = between(2.6, 0.13 * self.high_mm(), 22.0) * self.dots();
+        let sizes = Sizes {
+            largest,
+            smallest: 0.55 * largest,
+            lines: 2,
+        };
+        let block = self.bold(Field::Name).fitted(self.room(), sizes);
+        let column = self.across(Align::Left);
+        whole(Field::Name).put(parts, &block, column, self.plan.look.above)
+    }
+
+    /// The name above, below it the price as large as there is room, and a strip of bars with the small texts beside
+    /// it; those that have no room there stand in a line below the name.
+    pub(crate) fn price_first(&self, parts: &mut Parts) -> Result<Rows, LabelFault> {
+        let look = &self.plan.look;
+        let dots = self.dots();
+        let high = self.high_mm();
+        let top = self.put_large_name(parts)?;
+        let kind = self.item.article.label.kind();
+        let bars = self.bars(between(6.0, 0.24 * high, bars_mm(kind)) * dots);
+        let strip = bars + self.under_height(&self.under()) + 2.0 * self.bearer();
+        let bottom = self.bottom() - strip - GAP_MM * dots;
+        // A symbol that is wider than texts may be has its quiet zones in the white at both sides.
+        let left = self
+            .aside()
+            .min((look.wide() - self.item.wide()) / 2.0)
+            .round_ties_even();
+        let behind = left + self.item.wide() + 0.6 * dots;
+        let column = Column {
+            left: behind,
+            width: look.wide() - self.aside() - behind,
+            align: Align::Right,
+        };
+        let small = between(2.0, 0.075 * high, 9.0) * dots;
+        let (count, sizes) = self.beside(column.width, strip, small);
+        let needed = self.smalls_height(self.first(count), column.width, sizes);
+        self.put_smalls(
+            parts,
+            self.first(count),
+            column,
+            self.bottom() - needed,
+            sizes,
+        )?;
+        let top = self.put_row(
+            parts,
+            self.others(count),
+            top,
+            small_sizes(small, small.min(1.5 * dots)),
+        )?;
+        self.put_large_price(parts, top, bottom)?;
+        self.put_symbol(parts, left, bottom, bars)
+    }
+}
