@@ -135,8 +135,9 @@ const copiesFault = (copies) => copies && !(/^[0-9]{1,4}$/.test(copies) && Numbe
 function symbolTold(text, named) {
   const short = named.replace(/[^\S\ufeff]|-/g, "").toLowerCase();
   if (short && !FORMS[short]) return { fault: { key: "noKind", values: [shortText(named), Gs1.kinds.join(", ")] } };
-  const mark = /^\p{Nd}{8}$/u.test(digitsOf(text)) ? { upce: "]E0", ean8: "]E4" }[short] : undefined;
-  const asked = mark ? mark + digitsOf(text) : text, answer = readText(asked);
+  // Eight digits may be both. A UPC-E begins with 0.
+  const digits = digitsOf(text), mark = /^\p{Nd}{8}$/u.test(digits) && { upce: /^[1-9]/.test(digits) ? "" : "]E0", ean8: "]E4" }[short];
+  const asked = mark ? mark + digits : text, answer = readText(asked);
   if (answer.refused) return faultOfText(text, remedyOf(text, answer.refused), answer.refused);
   if (answer.fault) return faultOfText(text, answer.fault);
   const says = answer.elements.map(({ ai, value }) => `(${ai})${value}`).join("");

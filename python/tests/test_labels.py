@@ -73,6 +73,7 @@ def test_no_stock(name, told):
     ("gtin,kind\n9501101530003,ean8\n", 2, "refused 26 LabelKind 0: print it as another kind"),
     ("gtin,kind\n(10)AB,ean13\n", 2, "this is not a GTIN alone"),
     ("gtin,kind\n9501101530003,upce\n", 2, "refused 26 LabelKind 0: print it as another kind"),
+    ("gtin,kind\n96385074,upce\n", 2, "refused 26 LabelKind 0: print it as another kind"),
     ("gtin\n01234565\n", 2, "may be a GTIN-8 or a UPC-E"),
     ("gtin,name\n96385074,\u4e2d\n", 2, "'中' cannot be set"),
     ("gtin,name\n96385074,שלום\n", 2, "from right to left"), ("gtin,name\n96385074,\u0301\n", 2, "cannot be set"),

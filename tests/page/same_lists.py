@@ -99,7 +99,9 @@ def by_python(data):
         table = table_of(data, 2026)
         articles, faults = articles_of(table, 2026)
         doubled = {record.line for record in table.records if table.cell(record, "gs1").strip()}
-        fixes = [[it.line, it.after] for it in fixed(table, 2026)[1] if is_unreadable(it.before) and it.line not in doubled]
+        # The page corrects a number only if nothing stands in the way of it.
+        other = doubled | {it.line for it in faults if it.said.startswith("there is no kind")}
+        fixes = [[it.line, it.after] for it in fixed(table, 2026)[1] if is_unreadable(it.before) and it.line not in other]
         unused, passed, opened = list(table.unused), list(table.passed), list(table.opened)
         faults = sorted([*([table.question] if table.question else []), *faults])
     except Faults as error:

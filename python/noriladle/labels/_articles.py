@@ -180,8 +180,10 @@ def _symbol(text: str, kind: Optional[Kind], year: int) -> Tuple[Kind, str, Answ
     :raises ValueError: it is refused; the message says what to do.
     """
     digits = digits_of(text)
-    is_upce, is_ean8 = (kind is it and len(digits) == 8 and digits.isdecimal() for it in (Kind.UPCE, Kind.EAN8))
-    asked = f"]E0{digits}" if is_upce else f"]E4{digits}" if is_ean8 else text
+    # Eight digits may be both. A UPC-E begins with 0.
+    is_ean8, is_upce = kind is Kind.EAN8, kind is Kind.UPCE and not re.match("[1-9]", digits)
+    mark = "" if len(digits) != 8 or not digits.isdecimal() else "]E4" if is_ean8 else "]E0" if is_upce else ""
+    asked = f"{mark}{digits}" if mark else text
     try:
         answer = read_text(asked, year)
     except Refusal as refusal:
