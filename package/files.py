@@ -90,7 +90,7 @@ def has_kit() -> bool:
 
 
 def file_of(name: str) -> bytes:
-    """A file of these sources: TARGET/gs1_hub, TARGET/libgs1.a or TARGET/libgs1.so with x86_64 or aarch64 as the target, or gs1_c.wasm with wasm64
+    """A file of these sources: TARGET/gs1_hub, TARGET/libgs1.a or TARGET/libgs1.so with x86_64 or aarch64 as the target, x86_64_v2/gs1_hub, or gs1_c.wasm with wasm64
     or wasm32. It comes from release/, if that is of these sources. Otherwise the kit builds it.
 
     :raises NoFile: there is none.
@@ -115,7 +115,7 @@ def built(name: str) -> bytes:
     crate, made = {"gs1_hub": ("gs1_hub", "gs1_hub"), "gs1_c.wasm": ("gs1_c", "gs1_c.wasm")}.get(file, ("gs1_c", "libgs1_c.a"))
     if name == "wasm32/gs1_c.wasm":
         return lowered(built("wasm64/gs1_c.wasm"))
-    if not re.fullmatch(r"(x86_64|aarch64)/(gs1_hub|libgs1\.a|libgs1\.so)|wasm64/gs1_c\.wasm", name):
+    if not re.fullmatch(r"(x86_64|aarch64)/(gs1_hub|libgs1\.a|libgs1\.so)|x86_64_v2/gs1_hub|wasm64/gs1_c\.wasm", name):
         raise NoFile(f"there is no {name}", NO_INPUT)
     _run("package/prove", crate, target)
     path = ROOT / "crates" / crate / "out" / target / made

@@ -22,7 +22,7 @@ places = $(if $(is_goal)$(filter digits_core scan_core hub_core command_runs,$@)
 rattle = cd crates/$@ && "$(kit)/bin/rattle" build --crate-name $@ src/$(if $(wildcard crates/$@/src/main.rt),main,lib).rt --jobs $(places) --links $@= \
     -L "dependency=$(kit)/rlibs" -L "dependency=$(libraries)" --antt-project "$(kit)/rattle/logic/antt-project.json" --logic-built "$(kit)/logic_built" \
     $(foreach it,std $(listed),--extern "$(it)=$(if $(filter $(names),$(it)),$(libraries),$(kit)/rlibs)/$(it).rlib")
-machine = --target $(if $(filter wasm64,$(target)),wasm64-unknown-unknown,$(or $(target),x86_64)-unknown-linux-gnu) \
+machine = --target $(if $(filter wasm64,$(target)),wasm64-unknown-unknown,$(or $(target:_v2=),x86_64)-unknown-linux-gnu) \
     --toolchain "$(if $(is_arm),$(work),$(kit))/toolchain"
 compile = $(if $(is_arm),package/aarch64/toolchain "$(kit)" "$(work)/toolchain" &&) \
     $(rattle) $(machine) --backend llvm $(if $(filter x86_64,$(target)),--cpu x86-64)

@@ -176,6 +176,21 @@ def try_damage(tests: Tests, tree: Tree) -> None:
     tests.expect("no release, with a kit", (status, output, "proved" in error), (0, "built a\n", True))
 
 
+def try_levels(tests: Tests, tree: Tree) -> None:
+    """A release with a faster program for newer processors, which MANIFEST has first."""
+    faster = STUB.replace("released", "faster").encode()
+    (tree.folder / "release" / "x86_64_v2").mkdir()
+    (tree.folder / "release" / "x86_64_v2" / "gs1_hub.gz").write_bytes(gzip.compress(faster, mtime=0))
+    *first, last = tree.manifest.read_text(encoding="ascii").splitlines()
+    line = f"x86_64_v2/gs1_hub {hashlib.sha256(faster).hexdigest()} {len(faster)}"
+    tree.manifest.write_text("".join(f"{it}\n" for it in [*first, line, last]), encoding="ascii")
+    newer = "fpu sse2 ss ht syscall nx lm pni pclmulqdq ssse3 fma cx16 sse4_1 sse4_2 movbe popcnt aes hypervisor lahf_lm abm"
+    for flags, answer in ((newer, "faster"), (newer.replace(" sse4_2", ""), "released"), (newer.replace(" ssse3", ""), "released")):
+        shutil.rmtree(tree.out, ignore_errors=True)
+        mounts = f"echo 'flags : {flags}' >/mnt/flags\nmount --bind /mnt/flags /proc/cpuinfo"
+        tests.expect(f"a processor with {flags}", tree.run_in(mounts), (0, f"{answer} a\n", ""))
+
+
 def try_places(tests: Tests, tree: Tree) -> None:
     """Folders that cannot be written, are full, or run nothing."""
     cache, answer = f"{tree.home}/.cache/noriladle{tree.folder}", (0, "released a\n", "")
@@ -207,7 +222,7 @@ def try_files(tests: Tests, tree: Tree) -> None:
     made.unlink()
     refused("package/file without one for arm64", "aarch64/libgs1.so", f"release/ has no aarch64/libgs1.so; {more}")
     tests.expect("package/release --compare", tree.run("--compare", start="package/release", kit=True)[:2],
-                 (1, "release/ compared with what is proved here: 1 the same, 3 not\n1 passed, 3 failed\n"))
+                 (1, "release/ compared with what is proved here: 1 the same, 4 not\n1 passed, 4 failed\n"))
     whole = tree.packed.read_bytes()
     tree.packed.write_bytes(whole[:100])
     refused("package/file of a damaged release", name, f"release/{name}.gz is missing or damaged; {BACK}; {more}")
@@ -243,7 +258,7 @@ def best_time(*command: str) -> float:
 
 def main() -> int:
     tests = Tests()
-    for attempt in [try_current, try_other, try_damage, try_places, try_files, try_many]:
+    for attempt in [try_current, try_other, try_damage, try_levels, try_places, try_files, try_many]:
         with tempfile.TemporaryDirectory() as folder:
             attempt(tests, Tree(pathlib.Path(folder).resolve()))
     if tests.skipped:
