@@ -3,6 +3,7 @@ from __future__ import annotations
 
 import csv
 import io
+import re
 from dataclasses import replace
 from typing import List, NamedTuple, Tuple
 
@@ -44,7 +45,8 @@ def _meant(cell: str, year: int) -> str:
         number = meant(cell)
     else:
         number = digits_of(cell)
-    return number if number != cell and is_number(number) else ""
+    # Eight digits that begin with 0 may be two numbers.
+    return number if number != cell and is_number(number) and not re.fullmatch("0.{7}", number) else ""
 
 
 def csv_of(table: Table) -> str:
