@@ -224,7 +224,7 @@ def in_words(page):
                             ("02", "00012345000065"): "UPC-A 012345000065", ("10", "LOT7"): "", ("4331", "001850-"): "-18.50 °C", ("3941", "0125"): "12.5 %", ("3953", "001250"): "1.250",
                             ("423", "276528"): "Germany, Netherlands", ("4309", "05620000003500000000"): "-33.8000000, -10.0000000", ("7007", "261231270131"): "Dec 31, 2026 – Jan 31, 2027",
                             ("7007", "261231"): "Dec 31, 2026", ("4326", "261231"): "Dec 31, 2026"}.items():
-        same(f"{element} in words", page.value(f"meaningOfElement({{ ai: '{element[0]}', value: '{element[1]}' }})"), wanted)
+        same(f"{element} in words", page.value(f"meaningOfElement(core.said(']C1 {element[0]}={element[1]}').elements[0])"), wanted)
 
 
 # ---- browsers
