@@ -1,6 +1,6 @@
 //! Whether a line shows a symbol.
 ghost use Rattle.std.specs.Prelude.{◌≡◌, ◌+◌, ◌-◌, ◌*◌, ◌<◌, ◌≤◌, ◌^◌, ℕ, IsTrue, length};
-ghost use Rattle.line_core.specs.Symbols.{ShowsBars, ShowsCode, ShowsEan, ShowsItf, ShowsWidths, ShowsUpce};
+ghost use Rattle.line_core.specs.Symbols.{ShowsAnyCode, ShowsBars, ShowsCode, ShowsEan, ShowsItf, ShowsWidths, ShowsUpce};
 
 use crate::codes::show_codes;
 use crate::digits::show_digits;
@@ -8,52 +8,67 @@ use crate::ends::show_ends;
 use crate::lights::has_light;
 use crate::pairs::show_fives;
 
-/// The samples of a line, how far they are apart in 1/256 dot, the samples at which they turn, the ends between these in 1/256 dot from the first
-/// sample, and the widths in 1/48 module of the runs between the ends, light first and last.
+/// The samples of a line, of which those in `from..to` are of the picture, and those beside them beyond its edge; how far they are apart
+/// in 1/256 dot; the samples at which they turn; the ends between these, in 1/256 dot from the first sample; and the widths in 1/48 module of
+/// the runs between the ends, light first and last.
 #[derive(Clone, Copy)]
 pub struct Bars<'a> {
     pub values: &'a [u32],
+    pub from: usize,
+    pub to: usize,
     pub step: u16,
     pub turns: &'a [u32],
     pub ends: &'a [u32],
     pub widths: &'a [u16],
 }
 
-/// Whether bars show EAN of two halves of so many digits, with so many half modules of light.
-fn shows_ean(bars: &Bars, digits: usize, quiet: u16) -> bool
+/// Whether bars show EAN of two halves of so many digits, with so many half modules of light, if need be up to the edge of the picture.
+fn shows_ean(bars: &Bars, digits: usize, quiet: u16, edge: bool) -> bool
     requires { digits ≤ 6 }
-    ensures { IsTrue result → ShowsEan bars.now.values.now bars.now.step bars.now.turns.now bars.now.ends.now bars.now.widths.now digits quiet }
+    ensures { IsTrue result → ShowsEan bars.now.values.now bars.now.from bars.now.to bars.now.step bars.now.turns.now bars.now.ends.now bars.now.widths.now digits quiet edge }
 {
-    bars.widths.len() == 8 * digits + 13
-        && show_digits(bars.ends, bars.widths, 3, digits)
-        && show_digits(bars.ends, bars.widths, 8 + 4 * digits, digits)
-        && has_light(bars, 3, 4 + 8 * digits, 4, 14, quiet)
+    if bars.widths.len() != 8 * digits + 13 {
+        return false;
+    }
+    if !show_digits(bars.ends, bars.widths, 3, digits) {
+        return false;
+    }
+    if !show_digits(bars.ends, bars.widths, 8 + 4 * digits, digits) {
+        return false;
+    }
+    has_light(bars, 3, 4 + 8 * digits, 4, 14, quiet, edge)
 }
 
 /// Whether they show UPC-E.
 fn shows_upce(bars: &Bars) -> bool
-    ensures { IsTrue result → ShowsUpce bars.now.values.now bars.now.step bars.now.turns.now bars.now.ends.now bars.now.widths.now }
+    ensures { IsTrue result → ShowsUpce bars.now.values.now bars.now.from bars.now.to bars.now.step bars.now.turns.now bars.now.ends.now bars.now.widths.now }
 {
-    bars.widths.len() == 35
-        && show_digits(bars.ends, bars.widths, 3, 6)
-        && has_light(bars, 3, 23, 4, 14, 5)
+    if bars.widths.len() != 35 {
+        return false;
+    }
+    if !show_digits(bars.ends, bars.widths, 3, 6) {
+        return false;
+    }
+    has_light(bars, 3, 23, 4, 14, 5, false)
 }
 
 /// Whether they show Code 128 of so many characters, the last of which is the stop character.
 fn shows_code(bars: &Bars, characters: usize) -> bool
     requires { characters ≤ 100 }
-    ensures { IsTrue result → ShowsCode bars.now.values.now bars.now.step bars.now.turns.now bars.now.ends.now bars.now.widths.now characters }
+    ensures { IsTrue result → ShowsCode bars.now.values.now bars.now.from bars.now.to bars.now.step bars.now.turns.now bars.now.ends.now bars.now.widths.now characters }
 {
-    0 < characters
-        && bars.widths.len() == 6 * characters + 3
-        && show_codes(bars.ends, bars.widths, characters)
-        && has_light(bars, 0, 6 * (characters - 1), 6, 22, 5)
+    if characters == 0 || bars.widths.len() != 6 * characters + 3 {
+        return false;
+    }
+    if !show_codes(bars.ends, bars.widths, characters) {
+        return false;
+    }
+    has_light(bars, 0, 6 * (characters - 1), 6, 22, 5, true)
 }
 
 /// Whether they show Code 128 of as many characters as the widths have room for.
 fn shows_any_code(bars: &Bars) -> bool
-    ensures { IsTrue result → (characters : ℕ)
-        × ShowsCode bars.now.values.now bars.now.step bars.now.turns.now bars.now.ends.now bars.now.widths.now characters }
+    ensures { IsTrue result → ShowsAnyCode bars.now.values.now bars.now.from bars.now.to bars.now.step bars.now.turns.now bars.now.ends.now bars.now.widths.now }
 {
     let characters = (bars.widths.len() / 6).min(100);
     shows_code(bars, characters)
@@ -61,22 +76,28 @@ fn shows_any_code(bars: &Bars) -> bool
 
 /// Whether they show ITF-14.
 fn shows_itf(bars: &Bars) -> bool
-    ensures { IsTrue result → ShowsItf bars.now.values.now bars.now.step bars.now.turns.now bars.now.ends.now bars.now.widths.now }
+    ensures { IsTrue result → ShowsItf bars.now.values.now bars.now.from bars.now.to bars.now.step bars.now.turns.now bars.now.ends.now bars.now.widths.now }
 {
-    bars.widths.len() == 79
-        && show_fives(bars.ends, bars.widths, 0)
-        && show_fives(bars.ends, bars.widths, 1)
-        && has_light(bars, 4, 64, 10, 34, 5)
+    if bars.widths.len() != 79 {
+        return false;
+    }
+    if !show_fives(bars.ends, bars.widths, 0) {
+        return false;
+    }
+    if !show_fives(bars.ends, bars.widths, 1) {
+        return false;
+    }
+    has_light(bars, 4, 64, 10, 34, 5, true)
 }
 
 /// Whether each character that the widths say is nearer to its pattern than every other of its alphabet, and beside the bars is light.
 fn shows_symbol(bars: &Bars) -> bool
-    ensures { IsTrue result → ShowsWidths bars.now.values.now bars.now.step bars.now.turns.now bars.now.ends.now bars.now.widths.now }
+    ensures { IsTrue result → ShowsWidths bars.now.values.now bars.now.from bars.now.to bars.now.step bars.now.turns.now bars.now.ends.now bars.now.widths.now }
 {
-    if shows_ean(bars, 6, 5) {
+    if shows_ean(bars, 6, 5, true) {
         return true;
     }
-    if shows_ean(bars, 4, 9) {
+    if shows_ean(bars, 4, 9, false) {
         return true;
     }
     if shows_upce(bars) {
@@ -90,7 +111,7 @@ fn shows_symbol(bars: &Bars) -> bool
 
 /// Whether samples show the bars of the symbol with these widths: each end is between a dark and a light extreme that are next to each other.
 pub fn shows_bars(bars: &Bars) -> bool
-    ensures { IsTrue result → ShowsBars bars.now.values.now bars.now.step bars.now.turns.now bars.now.ends.now bars.now.widths.now }
+    ensures { IsTrue result → ShowsBars bars.now.values.now bars.now.from bars.now.to bars.now.step bars.now.turns.now bars.now.ends.now bars.now.widths.now }
 {
     let count = bars.ends.len();
     if count >= 1_048_576 || count + 1 != bars.widths.len() {

@@ -2,7 +2,7 @@
 ghost use Rattle.std.specs.Prelude.{◌≡◌, ◌+◌, ◌*◌, ◌<◌, ◌≤◌, ◌^◌, IfSome, length};
 
 use crate::parts::{are_even, distance, parts_of, square, sure_of};
-use crate::reading::{Kind, MOST_CHARACTERS, Reading};
+use crate::reading::{Kind, MOST_CHARACTERS, Reading, Row};
 use line_core::CODES;
 
 /// By how much bars are too wide, in 1/48 module, is more than this, or less if they are too narrow.
@@ -98,11 +98,12 @@ fn is_over(misfit: u64, times: u64, sure: u64) -> bool {
     misfit.saturating_mul(160) > sure.saturating_mul(times).saturating_mul(13)
 }
 
-/// A row of ends from the first of a window on, and the row's length.
+/// A row, and its ends from the first of a window on.
 #[derive(Clone, Copy)]
 pub(crate) struct Rest<'a> {
+    pub(crate) row: &'a Row<'a>,
+    pub(crate) first: usize,
     pub(crate) ends: &'a [u32],
-    pub(crate) length: u32,
 }
 
 /// What is known of a symbol: how sure its distances are, and its ink.
@@ -114,15 +115,6 @@ struct Known {
 }
 
 impl<'a> Rest<'a> {
-    /// The light behind an end.
-    pub(crate) fn light_behind(&self, end: usize) -> u32 {
-        let Some(here) = self.ends.get(end) else {
-            return 0;
-        };
-        let next = self.ends.get(end.saturating_add(1)).unwrap_or(&self.length);
-        next.saturating_sub(*here)
-    }
-
     /// The width of a character of six runs.
     fn width(&self, first: usize) -> u32 {
         distance(self.ends, first, first.saturating_add(6))
@@ -170,7 +162,14 @@ impl<'a> Rest<'a> {
         let away = (528 * bar).abs_diff(
             (96 + u64::from(known.ink)).saturating_sub(u64::from(NO_INK)) * width,
         );
-        away < 38 * width && 22 * u64::from(self.light_behind(last)) >= 5 * width
+        away < 38 * width
+            && 22
+                * u64::from(
+                    self.row
+                        .light_at(self.first.saturating_add(last), true)
+                        .counted,
+                )
+                >= 5 * width
     }
 
     /// How many characters stand before the stop.

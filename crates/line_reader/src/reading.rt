@@ -49,22 +49,126 @@ impl Reading {
     }
 }
 
-/// The ends of a row, and its length, in 1/256 dot.
+/// The samples of a row, `step` 256ths of a dot apart, those at which they turn, the ends between these, and how long the row is, in 1/256 dot.
+/// `before` and `behind` say how much of it lies beyond the edge of the picture.
 #[derive(Clone, Copy)]
 pub struct Row<'a> {
+    pub samples: &'a [u32],
+    pub step: u16,
+    pub turns: &'a [u32],
     pub ends: &'a [u32],
     pub length: u32,
+    pub before: u32,
+    pub behind: u32,
+    /// Whether it is looked at from its other side: so are its ends, and nothing else.
+    pub is_back: bool,
+}
+
+impl<'a> Row<'a> {
+    /// The sample of the extreme before an end.
+    fn turn(&self, number: usize) -> usize {
+        let place = if self.is_back {
+            self.ends.len().saturating_sub(number)
+        } else {
+            number
+        };
+        self.turns.get(place).copied().unwrap_or(0) as usize
+    }
+
+    fn value(&self, sample: usize) -> u64 {
+        self.samples.get(sample).copied().map_or(0, u64::from)
+    }
+
+    /// How far a sample is from a place.
+    fn away(&self, sample: usize, place: u32) -> u32 {
+        (sample.min(65_535) as u32)
+            .saturating_mul(u32::from(self.step))
+            .abs_diff(place)
+    }
+
+    /// The light from an end on to the right of the samples, from the light extreme beside it on.
+    fn light_to_right(&self, end: u32, extreme: usize, both: u64) -> Light {
+        for sample in extreme..self.samples.len() {
+            if 2 * self.value(sample).min(1 << 40) < both {
+                return Light::of(self.away(sample, end), 0);
+            }
+        }
+        let beyond = if self.is_back {
+            self.before
+        } else {
+            self.behind
+        };
+        Light::of(self.length.saturating_sub(end), beyond)
+    }
+
+    /// The same to the left.
+    fn light_to_left(&self, end: u32, extreme: usize, both: u64) -> Light {
+        for away in 0..extreme {
+            let sample = extreme.saturating_sub(away);
+            if 2 * self.value(sample).min(1 << 40) < both {
+                return Light::of(self.away(sample, end), 0);
+            }
+        }
+        let beyond = if self.is_back {
+            self.behind
+        } else {
+            self.before
+        };
+        Light::of(end, beyond)
+    }
+
+    /// The light before an end, or behind it: as far as values are no darker than half way between the extremes at the end.
+    pub(crate) fn light_at(&self, end: usize, is_behind: bool) -> Light {
+        let Some(place) = self.ends.get(end) else {
+            return Light::of(0, 0);
+        };
+        let one = self.turn(end);
+        let other = self.turn(end.saturating_add(1));
+        let both = self.value(one).saturating_add(self.value(other));
+        let extreme = if is_behind { other } else { one };
+        let place = if self.is_back {
+            self.length.saturating_sub(*place)
+        } else {
+            *place
+        };
+        if is_behind == self.is_back {
+            self.light_to_left(place, extreme, both)
+        } else {
+            self.light_to_right(place, extreme, both)
+        }
+    }
+}
+
+/// The light beside a window: what the picture shows of it, and what counts as light. Beyond the picture's edge all is light.
+#[derive(Clone, Copy)]
+pub(crate) struct Light {
+    pub(crate) shown: u32,
+    pub(crate) counted: u32,
+}
+
+impl Light {
+    /// So much, of which a part is beyond the edge.
+    pub(crate) fn of(width: u32, beyond: u32) -> Light {
+        Light {
+            shown: if beyond > 0 {
+                width.saturating_sub(beyond).saturating_add(256)
+            } else {
+                width
+            },
+            counted: if beyond > 0 { u32::MAX } else { width },
+        }
+    }
 }
 
 /// What a window of so many runs from an end on shows.
-fn read_window(rest: &Rest, left: u32, runs: usize, is_back: bool) -> Option<Reading> {
-    let ends = rest.ends.get(..runs.saturating_add(1))?;
-    let right = rest.light_behind(runs);
+fn read_window(row: &Row, first: usize, left: Light, runs: usize) -> Option<Reading> {
+    let ends = row.ends.get(first..)?.get(..runs.saturating_add(1))?;
+    let right = row.light_at(first.saturating_add(runs), true);
     match runs {
-        59 if !is_back => read_ean(ends, left, right, 6),
-        43 if !is_back => read_ean(ends, left, right, 4),
-        33 => read_upce(ends, left, right),
-        77 => read_itf(ends, left, right),
+        59 if !row.is_back => read_ean(ends, left.counted, right.counted, 6),
+        43 if !row.is_back => read_ean(ends, left.shown, right.shown, 4),
+        33 => read_upce(ends, left.shown, right.shown),
+        77 => read_itf(ends, left.counted, right.counted),
         _ => None,
     }
 }
@@ -74,25 +178,19 @@ const RUNS: [usize; 4] = [59, 43, 33, 77];
 
 /// What a row shows from an end on, at which it goes from light to dark. A row that is looked at from its other side shows no EAN, which is
 /// read from both.
-pub fn read_at(row: &Row, first: usize, is_back: bool) -> Option<Reading> {
+pub fn read_at(row: &Row, first: usize) -> Option<Reading> {
     let ends = row.ends.get(first..)?;
-    let left = match first.checked_sub(1) {
-        Some(before) => distance(row.ends, before, first),
-        None => ends.first().copied().unwrap_or(0),
-    };
-    let rest = Rest {
-        ends,
-        length: row.length,
-    };
-    if 24 * u64::from(left) >= 11 * u64::from(distance(ends, 0, 3)) {
+    let left = row.light_at(first, false);
+    if 24 * u64::from(left.counted) >= 11 * u64::from(distance(ends, 0, 3)) {
         for runs in RUNS {
-            let reading = read_window(&rest, left, runs, is_back);
+            let reading = read_window(row, first, left, runs);
             if reading.is_some() {
                 return reading;
             }
         }
     }
-    rest.read_code(left)
+    let rest = Rest { row, first, ends };
+    rest.read_code(left.counted)
 }
 
 /// A digit from its other side.

@@ -4,9 +4,9 @@ pub mod Lines
 pub mod Order
 pub mod Pictures
 pub mod Places
-pub mod Profiles
 pub mod Rows
 pub mod Saids
 pub mod Samples
+pub mod Sharp
 pub mod Told
 pub mod inner

@@ -8,7 +8,7 @@ use Rattle.picture_core.specs.Lines.{IsBefore, place_at, second_of}
 use Rattle.picture_core.specs.Order.{AreInReadingOrder, symbol_at}
 use Rattle.picture_core.specs.Pictures.{Greys}
 use Rattle.picture_core.specs.Places.{AreBarsOn, AreInSize, HaveArea, IsOn, middle}
-use Rattle.picture_core.specs.Bars.{Shows}
+use Rattle.picture_core.specs.Bars.{LineShows}
 use Rattle.picture_core.specs.Rows.{RowShows}
 use Rattle.picture_core.specs.Saids.{IsRefusal, IsSaid}
 use Rattle.element_core.specs.Terms.{Terms}
@@ -25,7 +25,7 @@ pub record AreOwnRows (picture : Greys) (level : ℕ) (year : Terms) (s : SeenSy
 -- lines of the picture show the symbol, and the middle of its bars there is on it
 pub record IsOnLine (picture : Greys) (year : Terms) (s : SeenSymbol) (line : SeenLine) : Type 0 where
   pub dot : ℕ
-  pub shown : Shows line.sampling picture year s.said.carrier s.said.elements line dot
+  pub shown : LineShows picture year s.said.carrier s.said.elements line dot
   pub on : IsOn s.corners (place_at line dot)
 
 -- two groups of lines side by side show the symbol

@@ -1,108 +1,63 @@
 //! Looks at the patches of stripes of a picture.
-ghost use Rattle.std.specs.Prelude.{◌≡◌, length};
 
 use crate::area::{Area, Size};
-use crate::bounds::put_bounds;
-use crate::edges::{Ends, put_edges};
 use crate::frame::{Frame, Spot, over};
 use crate::grid::Grid;
-use crate::on_line::line_shows;
 use crate::patch::{across, along, grid_over};
 use crate::reader::Reader;
 use crate::room::RowRoom;
 use crate::said::Furthest;
 use crate::seen_line::{Cleared, Sampling, SeenLine, SeenLines};
-use crate::sharp::{Blur, sharpen};
 use crate::shown::Shown;
 use crate::stripes::Blocks;
 use crate::symbol::SeenSymbol;
 use crate::tally::{Seen, Tally};
-use crate::turning::{Sighted, read_bars};
-use crate::windows::{Row, read_windows};
+use crate::turning::{Sighted, line_shows, read_bars};
 use line_reader::Turn;
 
 /// How a patch is looked at: how many lines a dot apart are taken in the mean, how many such rows at most, whether they go along the
-/// middles of the stripes, how the mean is looked at, and whether the bars are light and what is between them dark. If ends are looked for
-/// between turns: by how much values come back where they turn, and whether an end is where the way is steepest. If they are looked for by
-/// levels: which blur is taken out, how far around the darkest and the lightest is looked for, and whether on each side by itself.
+/// middles of the stripes, how close samples are, which blur is taken out, whether the bars are light and what is between them dark, by how much values
+/// come back where they turn, and whether an end is where the way is steepest.
 #[derive(Clone, Copy)]
 pub(crate) struct Look {
     pub(crate) lines: u32,
     pub(crate) rows: u32,
     pub(crate) is_aslant: bool,
     pub(crate) sampling: Sampling,
+    pub(crate) cleared: Cleared,
     pub(crate) is_inverted: bool,
     pub(crate) turn: Turn,
     pub(crate) by_slope: bool,
-    pub(crate) cleared: Cleared,
-    pub(crate) around: usize,
-    pub(crate) is_by_sides: bool,
 }
 
-/// A look between turns, and one by levels.
-const BETWEEN_TURNS: Look = Look {
+const USUAL: Look = Look {
     lines: 2,
     rows: 100,
     is_aslant: false,
     sampling: Sampling::Halves,
+    cleared: Cleared::Nothing,
     is_inverted: false,
     turn: Turn {
         part: 164,
         least: 1536,
     },
     by_slope: false,
-    cleared: Cleared::Nothing,
-    around: 0,
-    is_by_sides: false,
 };
 
-const BY_LEVELS: Look = Look {
-    lines: 1,
-    rows: 120,
-    sampling: Sampling::Levels,
-    around: 4,
-    ..BETWEEN_TURNS
+/// Where values turn that come back by a little.
+const FINE: Turn = Turn {
+    part: 98,
+    least: 922,
 };
 
-/// The looks, each if those before found nothing. Those between turns read smaller bars, and cost more.
-pub(crate) const LOOKS: [Look; 10] = [
-    BY_LEVELS,
-    Look {
-        lines: 3,
-        rows: 60,
-        is_aslant: true,
-        is_by_sides: true,
-        ..BY_LEVELS
-    },
-    Look {
-        lines: 9,
-        rows: 40,
-        is_aslant: true,
-        cleared: Cleared::Small,
-        around: 12,
-        ..BY_LEVELS
-    },
-    Look {
-        lines: 3,
-        rows: 40,
-        is_aslant: true,
-        is_inverted: true,
-        ..BY_LEVELS
-    },
-    Look {
-        lines: 9,
-        rows: 24,
-        is_aslant: true,
-        cleared: Cleared::Large,
-        around: 12,
-        ..BY_LEVELS
-    },
+/// The looks, each if those before found nothing.
+pub(crate) const LOOKS: [Look; 9] = [
     Look {
         rows: 24,
         sampling: Sampling::Dots,
-        ..BETWEEN_TURNS
+        ..USUAL
     },
-    BETWEEN_TURNS,
+    USUAL,
     Look {
         lines: 3,
         rows: 70,
@@ -111,7 +66,32 @@ pub(crate) const LOOKS: [Look; 10] = [
             part: 131,
             least: 1229,
         },
-        ..BETWEEN_TURNS
+        ..USUAL
+    },
+    Look {
+        lines: 3,
+        rows: 40,
+        is_aslant: true,
+        is_inverted: true,
+        ..USUAL
+    },
+    Look {
+        lines: 9,
+        rows: 40,
+        is_aslant: true,
+        turn: Turn {
+            part: 256,
+            least: 1536,
+        },
+        ..USUAL
+    },
+    Look {
+        lines: 9,
+        rows: 40,
+        is_aslant: true,
+        sampling: Sampling::Dots,
+        cleared: Cleared::Small,
+        ..USUAL
     },
     Look {
         lines: 3,
@@ -121,15 +101,20 @@ pub(crate) const LOOKS: [Look; 10] = [
             least: 1075,
         },
         by_slope: true,
-        ..BETWEEN_TURNS
+        ..USUAL
     },
     Look {
         lines: 1,
-        turn: Turn {
-            part: 98,
-            least: 922,
-        },
-        ..BETWEEN_TURNS
+        turn: FINE,
+        ..USUAL
+    },
+    Look {
+        lines: 9,
+        rows: 24,
+        is_aslant: true,
+        sampling: Sampling::Dots,
+        cleared: Cleared::Large,
+        ..USUAL
     },
 ];
 
@@ -143,102 +128,6 @@ impl Look {
     }
 }
 
-/// The look that took these lines.
-pub(crate) fn look_of(line: &SeenLine) -> Option<Look> {
-    for look in &LOOKS {
-        if look.may_take(line) {
-            return Some(*look);
-        }
-    }
-    None
-}
-
-/// The lightest value of a row, in 1/256 grey value.
-const WHITE: u32 = 65_280;
-
-/// Divides the sums of this many lines, and makes dark what is light if the look is so.
-fn make_means(sums: &mut [u32], look: &Look) {
-    for sum in sums.iter_mut() {
-        let mean = sum.checked_div(look.lines).unwrap_or(0);
-        *sum = if look.is_inverted {
-            WHITE.saturating_sub(mean)
-        } else {
-            mean
-        };
-    }
-}
-
-/// Puts the ends of the runs of a row of this many dots; how many.
-pub(crate) fn put_ends(
-    sums: &mut [u32],
-    look: &Look,
-    clear: &mut [u32],
-    blurred: &mut [u32],
-    low: &mut [u32],
-    high: &mut [u32],
-    ends: &mut [u32],
-) -> usize
-    requires clear { length clear.old ≡ length sums.old }
-    requires blurred { length blurred.old ≡ length sums.old }
-    requires low { length low.old ≡ length sums.old }
-    requires high { length high.old ≡ length sums.old }
-{
-    make_means(sums, look);
-    put_bounds(sums, look.around, look.is_by_sides, low, high);
-    let mut made = Ends::none(ends);
-    match &Blur::of_look(look.cleared) {
-        Some(blur) => {
-            sharpen(sums, low, high, blur, clear, blurred);
-            put_edges(clear, low, high, &mut made);
-        }
-        None => put_edges(sums, low, high, &mut made),
-    }
-    made.count()
-}
-
-/// Notes what a row says by levels; how many dots it took.
-fn read_levels(
-    reader: &Reader,
-    grid: &Grid,
-    v: i64,
-    look: &Look,
-    room: &mut RowRoom,
-    tally: &mut Tally,
-    furthest: &mut Furthest,
-) -> usize {
-    let half = room.samples.len() / 2;
-    let (sums, clear) = room.samples.split_at_mut(half);
-    let (from, dots) = grid.add_lines(reader.picture, v, look.lines, sums);
-    if dots == 0
-        || dots > sums.len()
-        || dots > clear.len()
-        || dots > room.blurred.len()
-        || dots > room.low.len()
-        || dots > room.high.len()
-    {
-        return 0;
-    }
-    let count = put_ends(
-        &mut sums[..dots],
-        look,
-        &mut clear[..dots],
-        &mut room.blurred[..dots],
-        &mut room.low[..dots],
-        &mut room.high[..dots],
-        room.ends,
-    );
-    if count <= room.ends.len() {
-        let row = Row {
-            ends: &room.ends[..count],
-            u: from >> 8,
-            v,
-            step: grid.step,
-        };
-        read_windows(&row, reader.year, tally, furthest);
-    }
-    dots.saturating_mul(look.lines as usize)
-}
-
 /// Notes what a row of a grid says; how many dots it took.
 fn read_row(
     reader: &Reader,
@@ -250,9 +139,6 @@ fn read_row(
     furthest: &mut Furthest,
 ) -> usize {
     let v = grid.v_of(row);
-    if look.sampling == Sampling::Levels {
-        return read_levels(reader, grid, v, look, room, tally, furthest);
-    }
     let (from, line) = grid.lines_of(reader.picture, v, look);
     let sighted = Sighted {
         u: from >> 8,
@@ -347,7 +233,7 @@ fn lines_of(
     room: &mut RowRoom,
 ) -> Option<SeenLines> {
     let lines = lines_from(reader, grid, seen, look, room, false);
-    if lines.is_some() || look.sampling == Sampling::Levels {
+    if lines.is_some() {
         return lines;
     }
     lines_from(reader, grid, seen, look, room, true)

@@ -9,7 +9,7 @@ use crate::grid::Grid;
 use crate::stripes::{Block, Blocks};
 
 /// Blocks hang together that are this many blocks apart, across or down.
-const REACH: usize = 2;
+const REACH: usize = 3;
 
 /// 1,048,576 times the cosine of 33 degrees: so much may the doubled directions of two blocks differ that go one way.
 const ALIKE: i64 = 879_000;

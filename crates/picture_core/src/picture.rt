@@ -1,9 +1,9 @@
 //! Grey dots.
-ghost use Rattle.std.specs.Prelude.{true, false, IfNone, OnSome, ◌≡◌, ◌+◌, ◌-◌, ◌*◌, ◌<◌, ◌≤◌, ℕ, IfSome, length};
+ghost use Rattle.std.specs.Prelude.{true, false, IfNone, IsTrue, OnSome, ◌≡◌, ◌+◌, ◌-◌, ◌*◌, ◌/◌, ◌<◌, ◌≤◌, ◌↔◌, ℕ, IfSome, length, slice_index_or};
 ghost use Rattle.picture_core.specs.Pictures.{IsPicture};
-ghost use Rattle.picture_core.specs.Lines.{IsAmidDots, mix, value_at};
+ghost use Rattle.picture_core.specs.Lines.{mix};
 ghost use Rattle.picture_core.specs.Rows.{greys_of_row};
-ghost use Rattle.picture_core.specs.Samples.{IsAmidFour, cubic_at, less_by, weight_before, weight_behind};
+ghost use Rattle.picture_core.specs.Samples.{IsInPicture, cubic_at, cubic_beside, inside, less_by, weight_before, weight_behind};
 
 use std::marker::Model;
 
@@ -91,73 +91,66 @@ impl<'a> Picture<'a> {
         &self.grey[first..first + self.width]
     }
 
-    /// The grey value at a place, in 1/65536 dot from the middle of the first one: from those of the four dots around it, in
-    /// 1/256; none if these are not all in the picture.
-    pub(crate) fn between(&self, x: u32, y: u32) -> Option<u32>
-        ensures value { IfSome result (λ value. value ≡ value_at self.now x y) }
-        ensures some { OnSome result (IsAmidDots self.now x y) }
-        ensures none { IfNone result (IsAmidDots self.now x y → ⊥) }
-        ensures light { IfSome result (λ value. value ≤ 65280) }
+    /// Whether a place, in 1/65536 dot from the corner of the picture, is in it.
+    pub(crate) fn holds(&self, x: u32, y: u32) -> bool
+        ensures { IsTrue result ↔ IsInPicture self.now x y }
     {
-        let column = (x >> 16) as usize;
-        let row = (y >> 16) as usize;
-        if column + 1 >= self.width() || row + 1 >= self.height() {
-            return None;
-        }
-        let above = self.row(row);
-        let below = self.row(row + 1);
-        let right = x / 256 % 256;
-        let upper = mixed(
-            u32::from(above[column]),
-            u32::from(above[column + 1]),
-            right,
-        );
-        let lower = mixed(
-            u32::from(below[column]),
-            u32::from(below[column + 1]),
-            right,
-        );
-        Some(mixed(upper, lower, y / 256 % 256) / 256)
+        ((x / 65_536) as usize) < self.width() && ((y / 65_536) as usize) < self.height()
     }
 
-    /// The value at a place, in 1/65536 dot from the middle of the first one, in 1/256 grey value and 64 grey values more: linear across
-    /// rows, cubic along them; none if the eight dots about it are not all in the picture.
-    #[tactic(auto, unfolding(crate::specs::Samples::cubic_at))]
-    pub(crate) fn cubic_at(&self, x: u32, y: u32) -> Option<u32>
-        ensures value { IfSome result (λ value. value ≡ cubic_at self.now x y) }
-        ensures some { OnSome result (IsAmidFour self.now x y) }
-        ensures few { IfSome result (λ value. value ≤ 524288) }
+    /// The value at a part of a dot to the right and down of the middle of one.
+    #[tactic(auto, unfolding(crate::specs::Samples::cubic_beside))]
+    fn cubic_beside(&self, column: usize, row: usize, right: u32, down: u32) -> u32
+        requires column { column < self.now.width }
+        requires row { row < self.now.height }
+        requires right { right < 256 }
+        requires down { down < 256 }
+        ensures value { result ≡ cubic_beside self.now column row right down }
+        ensures few { result ≤ 524288 }
     {
-        let column = (x >> 16) as usize;
-        let row = (y >> 16) as usize;
-        if column == 0 || column + 2 >= self.width() || row + 1 >= self.height() {
-            return None;
-        }
-        let right = x / 256 % 256;
-        let down = y / 256 % 256;
+        let last = self.width() - 1;
+        let lowest = self.height() - 1;
         let above = self.row(row);
-        let below = self.row(row + 1);
-        let one = mixed(
-            u32::from(above[column - 1]),
-            u32::from(below[column - 1]),
-            down,
-        );
-        let two = mixed(u32::from(above[column]), u32::from(below[column]), down);
-        let three = mixed(
-            u32::from(above[column + 1]),
-            u32::from(below[column + 1]),
-            down,
-        );
-        let four = mixed(
-            u32::from(above[column + 2]),
-            u32::from(below[column + 2]),
-            down,
-        );
+        let below = self.row((row + 1).min(lowest));
+        let one = mixed_in(above, below, column.saturating_sub(1), down);
+        let two = mixed_in(above, below, column, down);
+        let three = mixed_in(above, below, (column + 1).min(last), down);
+        let four = mixed_in(above, below, (column + 2).min(last), down);
         let more = weight_before(right) * u64::from(two)
             + weight_behind(right) * u64::from(three)
             + 549_755_813_888;
-        Some((more.saturating_sub(less_by(one, four, right)) / 33_554_432) as u32)
+        (more.saturating_sub(less_by(one, four, right)) / 33_554_432) as u32
     }
+
+    /// The value at a place, in 1/65536 dot from the corner of the picture, in 1/256 grey value and 64 grey values more: linear across rows,
+    /// cubic along them; none if it is not in the picture.
+    pub(crate) fn cubic_at(&self, x: u32, y: u32) -> Option<u32>
+        ensures value { IfSome result (λ value. value ≡ cubic_at self.now x y) }
+        ensures some { OnSome result (IsInPicture self.now x y) }
+        ensures few { IfSome result (λ value. value ≤ 524288) }
+    {
+        if !self.holds(x, y) {
+            return None;
+        }
+        let x = inside(x, self.width());
+        let y = inside(y, self.height());
+        let column = (x / 65_536) as usize;
+        let row = (y / 65_536) as usize;
+        Some(self.cubic_beside(column, row, x / 256 % 256, y / 256 % 256))
+    }
+}
+
+/// Half a dot.
+const HALF: u32 = 32_768;
+
+/// The place, from the middle of the first of so many dots, that is nearest to one from the corner of the picture.
+fn inside(place: u32, dots: usize) -> u32
+    requires some { 0 < dots }
+    requires few { dots ≤ 65535 }
+    ensures value { result ≡ inside dots place }
+    ensures within { result / 65536 < dots }
+{
+    place.saturating_sub(HALF).min(65_536 * (dots as u32 - 1))
 }
 
 /// How much the dot before a place counts, of 2^25, if it is this many 256ths of the way to the next.
@@ -192,6 +185,17 @@ fn less_by(one: u32, four: u32, part: u32) -> u64
     let part = u64::from(part);
     let rest = 256 - part;
     part * rest * (rest * u64::from(one) + part * u64::from(four))
+}
+
+/// 256 times the value of a column, this many 256ths of the way from a row down to the next.
+fn mixed_in(above: &[u8], below: &[u8], column: usize, down: u32) -> u32
+    requires above { column < length above.now }
+    requires below { column < length below.now }
+    requires down { down < 256 }
+    ensures value { result ≡ mix (slice_index_or above.now column 0) (slice_index_or below.now column 0) down }
+    ensures few { result ≤ 65280 }
+{
+    mixed(u32::from(above[column]), u32::from(below[column]), down)
 }
 
 /// 256 times the value that is this many 256ths of the way from one to another.

@@ -21,8 +21,8 @@ use element_core::Year;
 /// The fewest blocks of a patch.
 const FEWEST_BLOCKS: usize = 6;
 
-/// How many dots looks take before no more look begins, beside as many as the picture has.
-const MOST_TAKEN: usize = 3_000_000;
+/// How many dots looks take before no more patch is looked at, beside a quarter of those that the picture has.
+const MOST_TAKEN: usize = 2_000_000;
 
 /// Leaves the blocks that are outside of what is found.
 fn leave_unknown(blocks: &mut Blocks, shown: &Shown) {
@@ -55,7 +55,7 @@ fn read_stripes(
 ) {
     let picture = reader.picture;
     // How many dots may still be taken.
-    let mut left = picture.width() * picture.height() + MOST_TAKEN;
+    let mut left = picture.width() * picture.height() / 4 + MOST_TAKEN;
     for (before, look) in LOOKS.iter().enumerate() {
         // If there is no room for more symbols, a look would count those again that the one before dropped.
         if shown.dropped > 0 {

@@ -9,9 +9,9 @@ use crate::layout::Layout;
 pub(crate) struct RowRoom<'a> {
     /// Two words for each dot.
     pub(crate) samples: &'a mut [u32],
-    pub(crate) blurred: &'a mut [u32],
-    pub(crate) low: &'a mut [u32],
-    pub(crate) high: &'a mut [u32],
+    pub(crate) parts: &'a mut [u32],
+    pub(crate) places: &'a mut [u32],
+    pub(crate) values: &'a mut [u32],
     pub(crate) ends: &'a mut [u32],
 }
 
@@ -56,9 +56,9 @@ impl<'a> Room<'a> {
         let dots = usize::from(width) + usize::from(height);
         let blocks = Layout::of(usize::from(width), usize::from(height)).blocks();
         let (samples, words) = words.split_at_mut(2 * dots);
-        let (blurred, words) = words.split_at_mut(dots);
-        let (low, words) = words.split_at_mut(dots);
-        let (high, words) = words.split_at_mut(dots);
+        let (parts, words) = words.split_at_mut(dots);
+        let (places, words) = words.split_at_mut(dots);
+        let (values, words) = words.split_at_mut(dots);
         let (ends, words) = words.split_at_mut(dots + 2);
         let (queue, words) = words.split_at_mut(blocks);
         let (cos, words) = words.split_at_mut(blocks);
@@ -68,9 +68,9 @@ impl<'a> Room<'a> {
             widths,
             row: RowRoom {
                 samples,
-                blurred,
-                low,
-                high,
+                parts,
+                places,
+                values,
                 ends,
             },
             queue,

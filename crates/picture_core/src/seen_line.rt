@@ -1,5 +1,5 @@
 //! The lines of a picture along which a look saw a symbol.
-ghost use Rattle.picture_core.specs.Lines.{IsBefore, IsLaid, second_of, down_at, length_of, part_of, part_start, place_at, reach_of, right_at, square_of};
+ghost use Rattle.picture_core.specs.Lines.{IsBefore, IsLaid, second_of, down_at, length_of, place_at, right_at, square_of};
 ghost use Rattle.picture_core.specs.Samples.{sample_down, sample_right, samples_in, step_of};
 ghost use Rattle.std.specs.Prelude.{◌≡◌, ◌<◌, ◌≤◌, ◌^◌, IsTrue};
 
@@ -13,11 +13,9 @@ pub enum Cleared {
     Large,
 }
 
-/// How the mean of lines was looked at: dot by dot, its ends where it passes a level; or its ends between the places where it turns, with a sample at each dot,
-/// or also half way to the next one.
+/// Where the mean of lines has samples: at each dot, or also half way to the next one.
 #[derive(Clone, Copy, PartialEq, Eq)]
 pub enum Sampling {
-    Levels,
     Dots,
     Halves,
 }
@@ -30,7 +28,7 @@ impl Sampling {
     {
         let dots = dots as usize;
         match self {
-            Sampling::Levels | Sampling::Dots => dots,
+            Sampling::Dots => dots,
             Sampling::Halves => 2 * dots - 1,
         }
     }
@@ -40,7 +38,7 @@ impl Sampling {
         ensures { result ≡ step_of self }
     {
         match self {
-            Sampling::Levels | Sampling::Dots => 256,
+            Sampling::Dots => 256,
             Sampling::Halves => 128,
         }
     }
@@ -50,7 +48,7 @@ impl Sampling {
 /// numbers wrap at 65,536 dots.
 #[derive(Clone, Copy)]
 pub struct SeenLine {
-    /// Where the first line begins, to the right and down, in 1/65536 dot from the middle of the picture's first dot.
+    /// Where the first line begins, to the right and down, in 1/65536 dot from the corner of the picture.
     pub x: u32,
     pub y: u32,
     /// How far a line goes to the right and down from dot to dot.
@@ -60,7 +58,7 @@ pub struct SeenLine {
     pub dots: u32,
     /// How many lines there are.
     pub lines: u8,
-    /// How their mean was looked at.
+    /// Where their mean has samples.
     pub sampling: Sampling,
     /// What was taken out of it.
     pub cleared: Cleared,
@@ -178,7 +176,7 @@ impl SeenLine {
         ensures { result ≡ sample_right self.now sample line }
     {
         match self.sampling {
-            Sampling::Levels | Sampling::Dots => self.right_at(sample, line),
+            Sampling::Dots => self.right_at(sample, line),
             Sampling::Halves => half_way(
                 self.right_at(sample / 2, line),
                 self.right_at(sample / 2 + sample % 2, line),
@@ -191,36 +189,11 @@ impl SeenLine {
         ensures { result ≡ sample_down self.now sample line }
     {
         match self.sampling {
-            Sampling::Levels | Sampling::Dots => self.down_at(sample, line),
+            Sampling::Dots => self.down_at(sample, line),
             Sampling::Halves => half_way(
                 self.down_at(sample / 2, line),
                 self.down_at(sample / 2 + sample % 2, line),
             ),
-        }
-    }
-
-    /// How many dots a part of a line has, in which all have one dark and one light value around them.
-    fn part(&self) -> usize
-        ensures value { result ≡ part_of self.now }
-        ensures few { result < 2 ^ 32 }
-    {
-        (self.dots as usize / 64).max(10)
-    }
-
-    /// The first dot of the part that a dot is in.
-    pub(crate) fn part_start(&self, dot: usize) -> usize
-        ensures { result ≡ part_start self.now dot }
-    {
-        dot.saturating_sub(dot % self.part())
-    }
-
-    /// How many dots away the dark and the light value around a dot are at most.
-    pub(crate) fn reach(&self) -> usize
-        ensures { result ≡ reach_of self.now }
-    {
-        match self.cleared {
-            Cleared::Nothing => 6 * self.part(),
-            Cleared::Small | Cleared::Large => 14 * self.part(),
         }
     }
 
@@ -230,8 +203,8 @@ impl SeenLine {
     {
         let line = u32::from(self.lines) / 2;
         Point {
-            x: self.right_at(dot, line) / 256 + 128,
-            y: self.down_at(dot, line) / 256 + 128,
+            x: self.right_at(dot, line) / 256,
+            y: self.down_at(dot, line) / 256,
         }
     }
 }

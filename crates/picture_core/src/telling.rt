@@ -7,7 +7,6 @@ ghost use Rattle.picture_core.specs.Order.{AreInReadingOrder, symbol_at};
 ghost use Rattle.picture_core.specs.Told.{AreApart, AreApartIn, AreOnLines, AreOwnRows, HasOwnRows, HaveOwnRows, IsOnLine, IsSymbolIn, IsSomeSymbolIn};
 
 use crate::count::added;
-use crate::on_line::line_shows;
 use crate::order::{are_in_order, put_in_order};
 use crate::own_row::{OwnRow, OwnRows};
 use crate::picture::Picture;
@@ -17,6 +16,7 @@ use crate::said::{Furthest, Said};
 use crate::seen_line::{SeenLine, SeenLines};
 use crate::shown::{MOST, Shown};
 use crate::symbol::SeenSymbol;
+use crate::turning::line_shows;
 use arrayvec::ArrayVec;
 use element_core::Year;
 

@@ -1,9 +1,10 @@
 //! Reads lines by the ends between the places where their values turn.
-ghost use Rattle.std.specs.Prelude.{◌≡◌, ◌+◌, ◌-◌, ◌/◌, ◌<◌, ◌≤◌, IfSome, length};
+ghost use Rattle.std.specs.Prelude.{◌≡◌, ◌+◌, ◌-◌, ◌*◌, ◌/◌, ◌<◌, ◌≤◌, IfSome, IsTrue, length};
 ghost use Rattle.line_core.specs.Ends.{at};
 ghost use Rattle.line_core.specs.Symbols.{ShowsBars};
-ghost use Rattle.picture_core.specs.Bars.{LineShowsBars};
+ghost use Rattle.picture_core.specs.Bars.{LineShows};
 ghost use Rattle.picture_core.specs.Samples.{step_of};
+ghost use Rattle.picture_core.specs.Sharp.{AreSeen};
 
 use crate::look::{LOOKS, Look};
 use crate::picture::Picture;
@@ -11,8 +12,9 @@ use crate::place::half_way;
 use crate::reader::Reader;
 use crate::room::RowRoom;
 use crate::said::{Furthest, Said};
-use crate::samples::{are_samples, put_samples};
-use crate::seen_line::SeenLine;
+use crate::samples::{Range, are_samples, put_samples};
+use crate::seen_line::{Cleared, SeenLine};
+use crate::sharp::{are_seen, put_seen};
 use crate::tally::{Sight, Tally};
 use element_core::Year;
 use line_core::{Bars, shows_bars};
@@ -51,42 +53,110 @@ fn note_reading(
     }
 }
 
-/// Notes what the windows of some ends show. If they are those from the other side, places count from there.
-fn read_ends(
-    reader: &Reader,
-    ends: &[u32],
-    length: u32,
-    is_back: bool,
-    row: Sighted,
-    tally: &mut Tally,
-    furthest: &mut Furthest,
-) {
-    let all = Row { ends, length };
+/// Notes what the windows of a row of ends show.
+fn read_ends(reader: &Reader, all: &Row, row: Sighted, tally: &mut Tally, furthest: &mut Furthest) {
+    let ends = all.ends;
+    let shift = if all.is_back { all.behind } else { all.before };
     let mut next = 0usize;
     for number in 0..ends.len() / 2 {
         let first = 2 * number;
         if first < next {
             continue;
         }
-        let Some(reading) = read_at(&all, first, is_back) else {
+        let Some(reading) = read_at(all, first) else {
             continue;
         };
         let last = first.saturating_add(reading.runs());
         if last >= ends.len() {
             continue;
         }
-        let (left, right) = if is_back {
+        let (left, right) = if all.is_back {
             (
-                length.saturating_sub(ends[last]),
-                length.saturating_sub(ends[first]),
+                all.length.saturating_sub(ends[last]),
+                all.length.saturating_sub(ends[first]),
             )
         } else {
             (ends[first], ends[last])
         };
+        let left = left.saturating_sub(shift);
+        let right = right.saturating_sub(shift);
         if note_reading(reader.year, &reading, left, right, row, tally, furthest) {
             next = last;
         }
     }
+}
+
+/// Puts the samples of lines as a look sees them, sharpened if a blur is taken out of them, and their means.
+fn put_all<'a>(
+    picture: &Picture,
+    line: &SeenLine,
+    samples: &'a mut [u32],
+) -> (Range, &'a [u32], &'a [u32])
+    ensures { length result.1.now ≤ 65535 }
+{
+    if line.cleared == Cleared::Nothing {
+        let range = put_samples(picture, line, samples);
+        let values = &samples[..range.count];
+        return (range, values, values);
+    }
+    let half = samples.len() / 2;
+    let (values, means) = samples.split_at_mut(half);
+    let range = put_samples(picture, line, means);
+    let means = means.get(range.from..range.to).unwrap_or(&[]);
+    let count = means.len().min(values.len()).min(65_535);
+    put_seen(line.cleared, &means[..count], &mut values[..count]);
+    let range = Range {
+        count,
+        from: 0,
+        to: count,
+    };
+    (range, &values[..count], &means[..count])
+}
+
+/// How far the samples of a line lie beyond the picture, before it and behind it.
+fn beyond(range: Range, step: u16) -> (u32, u32) {
+    let before = if range.from == 0 { 0 } else { u32::from(step) };
+    let behind = if range.count <= range.to {
+        0
+    } else {
+        u32::from(step)
+    };
+    (before, behind)
+}
+
+/// Notes what the ends of a line show, looked at from one of its sides.
+fn read_side(
+    reader: &Reader,
+    range: Range,
+    samples: &[u32],
+    step: u16,
+    turns: &Extremes,
+    ends: &Ends,
+    is_back: bool,
+    row: Sighted,
+    tally: &mut Tally,
+    furthest: &mut Furthest,
+)
+    requires { length samples.now ≤ 65535 }
+{
+    let (first, last) = beyond(range, step);
+    let (before, behind) = if is_back {
+        (last, first)
+    } else {
+        (first, last)
+    };
+    let places = turns.places();
+    let all = Row {
+        samples,
+        step,
+        turns: &places[ends.skipped().min(places.len())..],
+        ends: ends.all(),
+        length: (samples.len() as u32).saturating_mul(u32::from(step)),
+        before,
+        behind,
+        is_back,
+    };
+    read_ends(reader, &all, row, tally, furthest);
 }
 
 /// Notes what a line shows, whose samples are put here; how many dots were taken.
@@ -103,22 +173,22 @@ fn read_samples(
     tally: &mut Tally,
     furthest: &mut Furthest,
 ) -> usize {
-    let count = put_samples(reader.picture, line, samples);
-    let samples = &samples[..count];
+    let (range, samples, _) = put_all(reader.picture, line, samples);
     let step = line.sampling.step();
     let half = parts.len() / 2;
     let (low, high) = parts.split_at_mut(half);
-    let length = (samples.len() as u32).saturating_mul(u32::from(step));
     let mut turns = Extremes::none(places, values);
     put_extremes(samples, look.turn, low, high, &mut turns);
     let mut all = Ends::none(ends);
     put_ends(samples, &turns, step, look.by_slope, &mut all);
-    read_ends(reader, all.all(), length, false, row, tally, furthest);
-    all.turn_round(length);
-    read_ends(reader, all.all(), length, true, row, tally, furthest);
-    count
-        .min(line.dots as usize)
-        .saturating_mul(usize::from(line.lines))
+    read_side(
+        reader, range, samples, step, &turns, &all, false, row, tally, furthest,
+    );
+    all.turn_round((samples.len() as u32).saturating_mul(u32::from(step)));
+    read_side(
+        reader, range, samples, step, &turns, &all, true, row, tally, furthest,
+    );
+    (line.dots as usize).saturating_mul(usize::from(line.lines))
 }
 
 /// Notes what a line shows; how many dots were taken.
@@ -137,27 +207,28 @@ pub(crate) fn read_bars(
         look,
         row,
         room.samples,
-        room.low,
-        room.blurred,
-        room.high,
+        room.parts,
+        room.places,
+        room.values,
         room.ends,
         tally,
         furthest,
     )
 }
 
-/// The dot in the middle of bars, if the samples of a line show them, and they say what a symbol says.
+/// The dot in the middle of bars, if the means of a line, as they are seen, show them, and they say what a symbol says.
 fn middle_of(
     picture: &Picture,
     year: Year,
     said: &Said,
     line: &SeenLine,
+    means: &[u32],
     bars: &Bars,
 ) -> Option<u32>
     requires { bars.now.step ≡ step_of line.now.sampling }
-    ensures { IfSome result (λ dot. LineShowsBars picture.now year said.now.carrier said.now.elements line.now dot) }
+    ensures { IfSome result (λ dot. LineShows picture.now year said.now.carrier said.now.elements line.now dot) }
 {
-    if bars.ends.len() == 0 || !line.is_laid() {
+    if bars.ends.len() == 0 || bars.from > 1 || !line.is_laid() {
         return None;
     }
     if !said.is_said_by(bars.widths, year) {
@@ -166,10 +237,24 @@ fn middle_of(
     if !shows_bars(bars) {
         return None;
     }
-    if !are_samples(picture, line, bars.values) {
+    if !are_samples(picture, line, bars.from, bars.to, means) {
         return None;
     }
-    Some(half_way(bars.ends[0], bars.ends[bars.ends.len() - 1]) / 256)
+    if !are_seen(line.cleared, means, bars.values) {
+        return None;
+    }
+    let middle = half_way(bars.ends[0], bars.ends[bars.ends.len() - 1]);
+    Some(middle.saturating_sub(u32::from(bars.step) * bars.from as u32) / 256)
+}
+
+/// What is laid through a picture: its samples as they are seen, their means, and where they turn.
+#[derive(Clone, Copy)]
+struct Laid<'a> {
+    range: Range,
+    values: &'a [u32],
+    means: &'a [u32],
+    turns: &'a [u32],
+    ends: &'a [u32],
 }
 
 /// The dot in the middle of the bars of a symbol that begin at one of the ends of a line. The first end is behind the first turn.
@@ -178,33 +263,40 @@ fn window_shows(
     year: Year,
     said: &Said,
     line: &SeenLine,
-    values: &[u32],
-    turns: &[u32],
-    ends: &[u32],
+    laid: Laid,
     first: usize,
 ) -> Option<u32>
-    ensures { IfSome result (λ dot. LineShowsBars picture.now year said.now.carrier said.now.elements line.now dot) }
+    ensures { IfSome result (λ dot. LineShows picture.now year said.now.carrier said.now.elements line.now dot) }
 {
     let step = line.sampling.step();
+    let (before, behind) = beyond(laid.range, step);
     let all = Row {
-        ends,
-        length: (values.len().min(65_535) as u32).saturating_mul(u32::from(step)),
+        samples: laid.values,
+        step,
+        turns: laid.turns,
+        ends: laid.ends,
+        length: (laid.values.len().min(65_535) as u32).saturating_mul(u32::from(step)),
+        before,
+        behind,
+        is_back: false,
     };
-    let reading = read_at(&all, first, false)?;
+    let reading = read_at(&all, first)?;
     let last = first.checked_add(reading.runs())?.checked_add(1)?;
     let mut widths = [0u16; MOST_WIDTHS];
     let count = put_widths(&reading, &mut widths).min(MOST_WIDTHS);
     let bars = Bars {
-        values,
+        values: laid.values,
+        from: laid.range.from,
+        to: laid.range.to,
         step,
-        turns: turns.get(first..last.checked_add(1)?)?,
-        ends: ends.get(first..last)?,
+        turns: laid.turns.get(first..last.checked_add(1)?)?,
+        ends: laid.ends.get(first..last)?,
         widths: &widths[..count],
     };
-    middle_of(picture, year, said, line, &bars)
+    middle_of(picture, year, said, line, laid.means, &bars)
 }
 
-/// The dot in the middle of the bars of a symbol, if the samples of its lines show it as a look sees them.
+/// The dot in the middle of the bars of a symbol, if the samples of its lines, put here, show it as a look sees them.
 fn samples_show(
     picture: &Picture,
     year: Year,
@@ -217,35 +309,25 @@ fn samples_show(
     values: &mut [u32],
     ends: &mut [u32],
 ) -> Option<u32>
-    ensures { IfSome result (λ dot. LineShowsBars picture.now year said.now.carrier said.now.elements line.now dot) }
+    ensures { IfSome result (λ dot. LineShows picture.now year said.now.carrier said.now.elements line.now dot) }
 {
-    let count = put_samples(picture, line, samples);
-    let samples = &samples[..count];
+    let (range, samples, means) = put_all(picture, line, samples);
+    let step = line.sampling.step();
     let half = parts.len() / 2;
     let (low, high) = parts.split_at_mut(half);
     let mut turns = Extremes::none(places, values);
     put_extremes(samples, look.turn, low, high, &mut turns);
     let mut all = Ends::none(ends);
-    put_ends(
-        samples,
-        &turns,
-        line.sampling.step(),
-        look.by_slope,
-        &mut all,
-    );
-    let places = turns.places().get(all.skipped()..)?;
-    let ends = all.all();
-    for number in 0..ends.len() / 2 {
-        if let Some(dot) = window_shows(
-            picture,
-            year,
-            said,
-            line,
-            samples,
-            places,
-            ends,
-            2 * number,
-        ) {
+    put_ends(samples, &turns, step, look.by_slope, &mut all);
+    let laid = Laid {
+        range,
+        values: samples,
+        means,
+        turns: turns.places().get(all.skipped()..)?,
+        ends: all.all(),
+    };
+    for number in 0..laid.ends.len() / 2 {
+        if let Some(dot) = window_shows(picture, year, said, line, laid, 2 * number) {
             return Some(dot);
         }
     }
@@ -261,7 +343,7 @@ fn look_shows(
     look: &Look,
     room: &mut RowRoom,
 ) -> Option<u32>
-    ensures { IfSome result (λ dot. LineShowsBars picture.now year said.now.carrier said.now.elements line.now dot) }
+    ensures { IfSome result (λ dot. LineShows picture.now year said.now.carrier said.now.elements line.now dot) }
 {
     samples_show(
         picture,
@@ -270,22 +352,22 @@ fn look_shows(
         line,
         look,
         room.samples,
-        room.low,
-        room.blurred,
-        room.high,
+        room.parts,
+        room.places,
+        room.values,
         room.ends,
     )
 }
 
 /// The dot in the middle of the bars of a symbol, if its lines show it.
-pub(crate) fn bars_show(
+pub(crate) fn line_shows(
     picture: &Picture,
     year: Year,
     said: &Said,
     line: &SeenLine,
     room: &mut RowRoom,
 ) -> Option<u32>
-    ensures { IfSome result (λ dot. LineShowsBars picture.now year said.now.carrier said.now.elements line.now dot) }
+    ensures { IfSome result (λ dot. LineShows picture.now year said.now.carrier said.now.elements line.now dot) }
 {
     for look in &LOOKS {
         if !look.may_take(line) {
