@@ -35,6 +35,10 @@ uint32_t gs1_c_read_row(const uint16_t *widths, size_t count, uint16_t year, str
 uint32_t gs1_c_read_dots(const uint8_t *bits, size_t bytes, uint32_t count, uint16_t year, struct gs1_answer *answer);
 uint32_t gs1_c_read_data(const uint8_t *line, size_t length, uint16_t year, struct gs1_answer *answer);
 size_t gs1_c_format(const struct gs1_answer *answer, uint32_t form, uint8_t *out, size_t room);
+uint32_t gs1_c_measure(const struct gs1_look *look, const struct gs1_article *article, uint16_t year, struct gs1_measure *measure);
+uint32_t gs1_c_plan(const struct gs1_look *look, const struct gs1_measure *measures, size_t count, struct gs1_plan *plan);
+uint32_t gs1_c_draw(const struct gs1_look *look, const struct gs1_plan *plan, const struct gs1_article *article, uint16_t year, uint8_t *row,
+                    size_t row_bytes, struct gs1_part *parts, size_t room, struct gs1_drawing *drawing);
 
 /* No items, aligned for each type. Nothing is read or written there, since the count is 0. */
 static const uint64_t none;
@@ -182,4 +186,42 @@ static const struct gs1_answer no_answer = {.fault = GS1_FAULT_KIND, .place = GS
 
 size_t gs1_format(const struct gs1_answer *answer, enum gs1_form form, uint8_t *out, size_t room) {
     return gs1_c_format(answer ? answer : &no_answer, (uint32_t)form, OUT);
+}
+
+/* What is lent, with pointers to nothing in the place of null pointers. */
+static struct gs1_article article_of(const struct gs1_article *given) {
+    struct gs1_article article = given ? *given : (struct gs1_article){0};
+    struct gs1_letters *texts[] = {&article.name,        &article.price, &article.old_price, &article.unit_price, &article.deposit,
+                                   &article.best_before, &article.batch, &article.lines};
+    if (!article.text.at) article.text = (struct gs1_bytes){(const uint8_t *)&none, 0};
+    for (size_t i = 0; i < sizeof texts / sizeof *texts; i++)
+        if (!texts[i]->codes) *texts[i] = (struct gs1_letters){(const uint32_t *)&none, 0};
+    return article;
+}
+
+static struct gs1_look look_of(const struct gs1_look *given) {
+    struct gs1_look look = given ? *given : (struct gs1_look){0};
+    struct gs1_font *fonts[] = {&look.regular, &look.bold};
+    for (size_t i = 0; i < 2; i++)
+        if (!fonts[i]->widths) fonts[i]->widths = (const uint16_t *)&none, fonts[i]->count = 0;
+    return look;
+}
+
+int gs1_measure(const struct gs1_look *look, const struct gs1_article *article, uint16_t year, struct gs1_measure *measure) {
+    struct gs1_article some = article_of(article);
+    struct gs1_look label = look_of(look);
+    return (int)gs1_c_measure(&label, &some, year, measure ? measure : &(struct gs1_measure){0});
+}
+
+int gs1_plan(const struct gs1_look *look, const struct gs1_measure *measures, size_t count, struct gs1_plan *plan) {
+    struct gs1_look label = look_of(look);
+    return (int)gs1_c_plan(&label, READ(struct gs1_measure, measures, count), plan ? plan : &(struct gs1_plan){0});
+}
+
+int gs1_draw(const struct gs1_look *look, const struct gs1_plan *plan, const struct gs1_article *article, uint16_t year, uint8_t *row,
+             size_t row_bytes, struct gs1_part *parts, size_t room, struct gs1_drawing *drawing) {
+    struct gs1_article some = article_of(article);
+    struct gs1_look label = look_of(look);
+    return (int)gs1_c_draw(&label, plan ? plan : &(struct gs1_plan){0}, &some, year, WRITE(uint8_t, row, row_bytes),
+                           WRITE(struct gs1_part, parts, room), drawing ? drawing : &(struct gs1_drawing){0});
 }

@@ -53,7 +53,10 @@ enum gs1_fault {
     GS1_FAULT_TOO_WIDE = 17, GS1_FAULT_BAD_RUNS = 18, GS1_FAULT_BLANK = 19, GS1_FAULT_RUN_COUNT = 20,
     GS1_FAULT_QUIET_ZONE = 21, GS1_FAULT_MODULES = 22, GS1_FAULT_PATTERN = 23,
     GS1_FAULT_SYMBOL_CHECK_DIGIT = 24, GS1_FAULT_BAD_GRID = 25, GS1_FAULT_LABEL_KIND = 26,
-    GS1_FAULT_LABEL_WIDTH = 27, GS1_FAULT_KIND = 40, GS1_FAULT_WORDS = 42, GS1_FAULT_NO_MEMORY = 43
+    GS1_FAULT_LABEL_WIDTH = 27, GS1_FAULT_KIND = 40, GS1_FAULT_WORDS = 42, GS1_FAULT_NO_MEMORY = 43,
+    /* of gs1_measure, gs1_plan and gs1_draw alone */
+    GS1_FAULT_MEASURES = 51, GS1_FAULT_MODULE = 52, GS1_FAULT_BARS = 53, GS1_FAULT_NO_PLACE = 54, GS1_FAULT_NO_HEIGHT = 55,
+    GS1_FAULT_LINES = 56, GS1_FAULT_MISDRAWN = 57
 };
 
 /* The kinds of labels: GS1_GS1128 shows an element string, the others a GTIN. */
@@ -256,6 +259,112 @@ enum gs1_form { GS1_AS_DATA = 0, GS1_AS_HRI = 1 };
  * part filled the answer. You may change the answer or fill it yourself: any bytes give a line, in which a place that is no span of the text
  * is empty. If `form` is none of these, the line is `refused 40 Kind`. */
 size_t gs1_format(const struct gs1_answer *answer, enum gs1_form form, uint8_t *out, size_t room);
+
+/* ---- Labels laid out: what is drawn of an article, and where. Each call returns 0, or the number of the error. Lengths are dots unless a
+ * name says mm. Labels of a list look even if they have a plan in common: call gs1_measure for each article, gs1_plan once for all measures,
+ * and then gs1_draw for each article. */
+
+/* The most parts of a label, and the bytes of a row of 65,535 dots. */
+#define GS1_PARTS 400
+#define GS1_ROW 8192
+
+/* Letters by their code points. */
+struct gs1_letters {
+    const uint32_t *codes;
+    size_t count;
+};
+
+/* What a label shows: the symbol of this kind and text, as for gs1_symbol, and texts. An empty text is not shown. */
+struct gs1_article {
+    struct gs1_bytes text;
+    struct gs1_letters name, price, old_price, unit_price, deposit, best_before, batch;
+    struct gs1_letters lines;       /* at most 8, with a line feed between two */
+    uint32_t kind;                  /* enum gs1_kind */
+    uint32_t bearers;               /* 1: an ITF-14 has a bar above it and one below it */
+};
+
+/* The measures of a font, in 1/16,384 of its size. */
+struct gs1_font {
+    const uint16_t *widths;         /* of its letters by their code points; 0 for a letter that it lacks */
+    size_t count;
+    uint16_t other;                 /* the width of its sign for letters that it lacks */
+    uint16_t ascent, descent;       /* how far its letters go up and down from their base line; together at least half a size */
+    uint16_t digits;                /* how far its digits go up */
+};
+
+/* An empty label, and how it looks. */
+struct gs1_look {
+    double aside, above;            /* how much stays white at each side, and above and below */
+    double dots;                    /* of a millimetre, 4 to 100 */
+    double module_mm, bars_mm;      /* the width of a module and the height of the bars, 5 to 100; 0 if you do not ask for them */
+    uint16_t width, height;
+    uint32_t price_first;           /* 1: the price is the largest, and the bars are a strip below it */
+    struct gs1_font regular, bold;
+};
+
+/* What the label of an article counts for the others of its list. */
+struct gs1_measure {
+    uint32_t wide, price;
+    uint8_t retail;
+};
+
+/* What labels of a list have in common. */
+struct gs1_common {
+    double column, beside, above;
+};
+
+struct gs1_plan {
+    struct gs1_common articles, cases;
+};
+
+/* What is drawn in a part. */
+enum gs1_ink { GS1_BAR = 0, GS1_BEARER = 1, GS1_LETTERS = 2 };
+
+/* The texts of an article. GS1_FIELD_DIGITS is what people read under the symbol, as gs1_symbol answers it. */
+enum gs1_field {
+    GS1_FIELD_NAME = 0, GS1_FIELD_PRICE = 1, GS1_FIELD_OLD_PRICE = 2, GS1_FIELD_UNIT_PRICE = 3, GS1_FIELD_DEPOSIT = 4,
+    GS1_FIELD_BEST_BEFORE = 5, GS1_FIELD_BATCH = 6, GS1_FIELD_LINES = 7, GS1_FIELD_DIGITS = 8
+};
+
+/* How letters are set: the sum of these. GS1_CUT: an ellipsis follows. */
+enum gs1_set { GS1_CUT = 1, GS1_BOLD = 2, GS1_STRUCK = 4 };
+
+/* A rectangle of a label, and what is drawn in it. Bars and bearers are dark all over; letters lie in it. */
+struct gs1_part {
+    uint16_t left, top, width, height;
+    uint16_t field, from, count;    /* of letters: enum gs1_field, the first of them in that text, and how many */
+    uint8_t ink, flags;             /* enum gs1_ink, enum gs1_set */
+    uint32_t size, letters_left, base; /* in 1/64 dot: the size of the font, where the letters begin, and their base line */
+    uint32_t step;                  /* in 1/64 dot: each letter stands in the middle of this much; 0 if they follow one another */
+};
+
+/* A drawn label. */
+struct gs1_drawing {
+    uint32_t count;                 /* of its parts */
+    uint32_t nominal;               /* the height of bars that the standard asks for, in 1/64 dot */
+    uint16_t width, height;
+    uint16_t top, end;              /* the first row through all bars, and the one below the last */
+    uint16_t left, module;          /* where the left quiet zone begins, and the dots of a module */
+};
+
+/* This layout does not change within a major version. */
+typedef char gs1_part_size[sizeof(struct gs1_part) == 32 ? 1 : -1];
+typedef char gs1_drawing_size[sizeof(struct gs1_drawing) == 20 ? 1 : -1];
+
+/* What the label of an article counts for the others of its list. */
+int gs1_measure(const struct gs1_look *look, const struct gs1_article *article, uint16_t year, struct gs1_measure *measure);
+
+/* What the labels of a list have in common, from the measures of its articles. */
+int gs1_plan(const struct gs1_look *look, const struct gs1_measure *measures, size_t count, struct gs1_plan *plan);
+
+/* The label of an article. All parts lie on it and do not overlap. The first are the bars of its symbol, the others letters or bearers outside
+ * of the symbol and its quiet zones. Each letter is shown, unless it follows an ellipsis, and a price is never cut. Each row through the bars
+ * answers the article, and nothing else.
+ *
+ * `row` has GS1_ROW bytes, with any contents; fewer are GS1_FAULT_NO_MEMORY. `parts` has room for `room` parts. If there are more, `parts` is
+ * unchanged, and `count` of the drawing says how many there are. The call needs at most 160 KiB of stack. */
+int gs1_draw(const struct gs1_look *look, const struct gs1_plan *plan, const struct gs1_article *article, uint16_t year, uint8_t *row,
+             size_t row_bytes, struct gs1_part *parts, size_t room, struct gs1_drawing *drawing);
 
 #ifdef __cplusplus
 }

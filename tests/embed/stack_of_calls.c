@@ -7,7 +7,7 @@
 #include <string.h>
 #include <sys/mman.h>
 
-enum { MOST_STACK = 48 * 1024, STACK = 1024 * 1024, PAINT = 0xa5, YEAR = GS1_EVERY_AI | 2026 };
+enum { MOST_STACK = 48 * 1024, MOST_OF_DRAW = 160 * 1024, STACK = 1024 * 1024, PAINT = 0xa5, YEAR = GS1_EVERY_AI | 2026 };
 
 static const char STRING[] = "0109501101530003" "3103001750" "390201995\x1d" "17261231" "10LOT7\x1d" "7007260228260301\x1d" "21SERIAL";
 static const char LINK[] = "https://id.gs1.org/some/path/01/9501101530003/10/LOT%37/21/SERIAL?17=261231&3103=001750&7007=260228260301&x=y";
@@ -37,6 +37,20 @@ static void read_row(const uint8_t *text, size_t length) { (void)text, gs1_read_
 static void read_dots(const uint8_t *text, size_t length) { gs1_read_dots(text, 8 * length, YEAR, &answer); }
 static void read_data(const uint8_t *text, size_t length) { gs1_read_data(text, length, YEAR, &answer); }
 static void format(const uint8_t *text, size_t length) { read_message(text, length), gs1_format(&answer, GS1_AS_DATA, out, sizeof out); }
+
+static void draw(const uint8_t *text, size_t length) {
+    static const struct gs1_font font = {.other = 8192, .ascent = 15893, .descent = 3769, .digits = 12124};
+    static const struct gs1_look look = {.dots = 8, .width = 1000, .height = 600, .price_first = 1, .regular = font, .bold = font};
+    static const uint32_t letters[] = {'1', '.', '9', '0'};
+    static struct gs1_part parts[GS1_PARTS];
+    struct gs1_letters few = {letters, 4};
+    struct gs1_article article = {{text, length}, few, few, few, few, few, few, few, few, GS1_GS1128, 0};
+    struct gs1_measure measure;
+    struct gs1_plan plan;
+    struct gs1_drawing drawing;
+    if (gs1_measure(&look, &article, YEAR, &measure) || gs1_plan(&look, &measure, 1, &plan) ||
+        gs1_draw(&look, &plan, &article, YEAR, out, sizeof out, parts, GS1_PARTS, &drawing)) abort();
+}
 
 struct asked {
     const char *name;
@@ -94,5 +108,7 @@ int main(int count, char **words) {
         most = stack > most ? stack : most;
     }
     printf("%zu calls: at most %zu bytes of stack, of %d\n", sizeof all / sizeof *all, most, MOST_STACK);
-    return most > MOST_STACK;
+    size_t drawn = stack_of((struct asked){"gs1_draw", draw, STRING, 26}) - empty;
+    printf("gs1_draw: %zu bytes of stack, of %d\n", drawn, MOST_OF_DRAW);
+    return most > MOST_STACK || drawn > MOST_OF_DRAW;
 }

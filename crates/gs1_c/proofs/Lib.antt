@@ -3,6 +3,7 @@ mod DateFacts
 mod FirstWord
 mod LinesByTerms
 mod LinesThatFit
+mod PartFacts
 mod PictureFacts
 mod TitleFacts
 mod ToldFacts

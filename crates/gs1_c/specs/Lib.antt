@@ -1,4 +1,5 @@
 pub mod Dates
+pub mod Drawn
 pub mod Found
 pub mod Labels
 pub mod Lines

@@ -1,5 +1,5 @@
 -- The lines that the calls answer.
-use Rattle.std.specs.Prelude.{◌≡◌, ◌-◌, ◌*◌, ◌&&◌, Bool, true, false, nat_le, nat_lt, ℕ, List, Option, Some, None, length, if◌then◌else◌}
+use Rattle.std.specs.Prelude.{◌≡◌, ◌-◌, ◌&&◌, Bool, true, false, nat_le, nat_lt, ℕ, List, Option, Some, None, length, if◌then◌else◌}
 use Rattle.digits_core.specs.Refusals.{refusal_words}
 use Rattle.digits_core.specs.declared.refusal.RefusalKind.TheVariants as refusal
 use Rattle.element_core.specs.Lines.{IsElementsLine, elements_text}

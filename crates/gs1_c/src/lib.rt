@@ -26,6 +26,7 @@ ghost use Rattle.gs1_c.specs.Titles.{title_of};
 mod answer;
 mod buffer;
 mod dates;
+mod drawing;
 mod found;
 mod label;
 mod line;

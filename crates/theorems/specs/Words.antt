@@ -29,6 +29,7 @@ pub use Rattle.sheet_core.specs.Grids.{Cells, IsGrid}
 pub use Rattle.sheet_core.specs.Labels.{Drawn, FitsCell, IsDrawn, label_text}
 pub use Rattle.sheet_core.specs.declared.label.Label.{Label}
 pub use Rattle.sheet_core.specs.pbm.Images.{images_of, pbm_of}
+pub use Rattle.shop_core.specs.Drawings.{IsDrawingOf}
 pub use Rattle.lane_core.specs.declared.job.Plain.{Plain}
 pub use Rattle.hub_core.specs.Hubs.{AreAllSeats, year_of}
 pub use Rattle.hub_core.specs.Lane.{AreSettled, Lane}

@@ -1,12 +1,13 @@
-//! Theorems more: a check digit, the profile, scanner texts, a drawn label without its sheet, and the call that the program makes.
-ghost use Rattle.std.specs.Prelude.{◌≡◌, ◌↔◌, ◌<◌, ◌≤◌, ◌-◌, ◌++◌, ◌∷◌, ℕ, [], IfOk, List, Option, codes, length, map};
-ghost use Rattle.theorems.specs.Words.{AllZip, AreAnswersOf, AreAsciiDigits, Cells, Entry, Head, IsAnswer, IsChecked, IsElements, IsMessage, IsUpceOf, Label, MessageSays, Outcome, Reads, Said, ShowsDrawn, Terms, digits_of, every_ai, gtin_entry, heard, label_answer, label_text, profile, served};
+//! Theorems more: a check digit, the profile, scanner texts, a drawn label without its sheet, a shop's label, and the call that the program makes.
+ghost use Rattle.std.specs.Prelude.{◌≡◌, ◌↔◌, ◌<◌, ◌≤◌, ◌-◌, ◌*◌, ◌++◌, ◌∷◌, ℕ, [], IfOk, List, Option, codes, length, map};
+ghost use Rattle.theorems.specs.Words.{AllZip, AreAnswersOf, AreAsciiDigits, Cells, Entry, Head, IsAnswer, IsChecked, IsDrawingOf, IsElements, IsMessage, IsUpceOf, Label, MessageSays, Outcome, Reads, Said, ShowsDrawn, Terms, digits_of, every_ai, gtin_entry, heard, label_answer, label_text, profile, served};
 
 use element_core::Year;
 use hub_core::{Gate, ServeFault};
 use lane_core::Delivery;
 use message_core::Message;
 use scan_core::Runs;
+use shop_core::{Drawing, Item, LabelFault, Plan};
 use std::alloc::Global;
 use std::sync::Wait;
 use std::thread::Threads;
@@ -46,6 +47,20 @@ pub fn a_drawn_label_is_read()
         → IsElements year (label_text label) list → IsAnswer row year said ↔ (said ≡ label_answer label year list) }
 {
     sheet_core::drawn_is_read();
+}
+
+/// A label that is laid out has all its parts on it, and none over another: the bars of its article's symbol, and outside of that and its quiet
+/// zones letters and bearers. Its price is whole, and each row through its bars answers the article, and nothing else.
+pub fn draw(
+    item: &Item,
+    plan: &Plan,
+    year: Year,
+    row: &mut [u8],
+) -> Result<Drawing, LabelFault>
+    requires { 65535 ≤ 8 * length row.old }
+    ensures { IfOk result (λ drawing. IsDrawingOf drawing item.now.article.now year) }
+{
+    shop_core::draw(item, plan, year, row)
 }
 
 /// Feeds are served a delivery for each row, in order and each once, by any number of workers; their answers are those to the rows.

@@ -7,7 +7,7 @@ ghost use Rattle.theorems.specs.Words.{AllByRecursion, AnswerLane, Answers, AreA
 mod further;
 
 use element_core::Year;
-pub use further::{Lists, a_drawn_label_is_read, check_digit, profile_within, read_message, serve};
+pub use further::{Lists, a_drawn_label_is_read, check_digit, draw, profile_within, read_message, serve};
 use hub_core::Unsettled;
 use scan_core::{Answer, Runs};
 use sheet_core::{Grid, Label, Sheet, SheetFault};
