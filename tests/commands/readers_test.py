@@ -43,7 +43,7 @@ class ReadersTest(CommandTest):
 
     @unittest.skipIf(program.EMULATED, "an emulator has threads of its own")
     def test_workers_read_the_rows(self):
-        for workers in [1, 3]:
+        for workers in [1, 3, 5, 9]:
             with self.subTest(workers):
                 # A third of the work is to read the rows; a worker that reads none takes no time. Ticks are coarse, so a run may show less.
                 runs = []

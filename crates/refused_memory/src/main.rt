@@ -5,12 +5,12 @@
 ghost use Rattle.std.specs.Prelude.{◌≡◌, ◌<◌, IfSome, length};
 ghost use Rattle.lane_core.specs.ReorderBuffer.{lanes_of};
 
-use digits_core::{Gtin, Sink, ToWriter};
+use digits_core::{FromReader, Gtin, Sink, ToWriter};
 use element_core::Year;
 use hub_core::{Collected, ServeFault, Shape, serve};
 use lane_core::{Deliverer, Delivery, Event, Job, TakeFault, Ticket, World, decode};
 use scan_core::Runs;
-use sheet_core::{Grid, Label, PrintFault, Sheet, SheetFault, print_pbm, print_sheets};
+use sheet_core::{Grid, Label, PrintFault, Sheet, SheetFault, print_pbm, print_sheets, read_pbm};
 use std::alloc::Global;
 use std::io::{self, Read};
 use std::process::ExitCode;
@@ -28,6 +28,9 @@ const EAN8: &[u16] = &[
     7, 1, 1, 1, 3, 1, 1, 2, 1, 1, 1, 4, 1, 4, 1, 1, 1, 2, 1, 3, 1, 1, 1, 1, 1, 1, 2, 3, 1, 3, 2, 1,
     1, 1, 3, 1, 2, 1, 1, 3, 2, 1, 1, 1, 7,
 ];
+
+// Two images of one row, the second of which is dark.
+const IMAGES: &[u8] = b"P4\n8 1\n\x00P4\n8 1\n\xFF";
 
 /// The row of these widths.
 fn row(alloc: Global, widths: &[u16]) -> Option<Runs> {
@@ -229,6 +232,15 @@ fn write_images<W: Sink>(alloc: Global, labels: &[Label], grid: Grid, sink: &mut
     }
 }
 
+/// How many sheets a file of images has.
+fn count_sheets(alloc: Global, images: &[u8]) -> Option<usize> {
+    let sheets = match read_pbm(alloc, &mut FromReader::new(images)) {
+        Ok(sheets) => sheets,
+        Err(_) => read_pbm(alloc, &mut FromReader::new(images)).ok()?,
+    };
+    Some(sheets.len())
+}
+
 /// Serves three rows of a lane, of which the second is posted before the first. How many deliveries there are.
 fn served<R: Threads + Wait + Sync>(
     rt: &R,
@@ -292,5 +304,6 @@ fn main(rt: HostRuntime) -> io::Result<ExitCode> {
     }
     let written = write_images(alloc, &labels, grid, &mut ToWriter::new(io::writer(&rt)));
     println!(rt; "images written: {written}")?;
+    println!(rt; "images read: {:?}", count_sheets(alloc, IMAGES))?;
     Ok(ExitCode::SUCCESS)
 }

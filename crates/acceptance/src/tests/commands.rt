@@ -3,7 +3,7 @@
 use crate::tests::equal::is_equal;
 use crate::tests::rows::year_of;
 use command_line::{LaneOptions, LiveOptions, PrintOptions, ScanOptions, WholeInput};
-use command_runs::{CommandFault, run, run_live};
+use command_runs::{CommandFault, run, run_lanes, run_live, run_scan};
 use digits_core::{FromReader, ToWriter};
 use hub_core::{Gate, OpenGate};
 use lane_core::Ticket;
@@ -157,6 +157,35 @@ fn one_worker_reads_the_rows_of_a_column(rt: HostRuntime) -> Result<(), Fail> {
     let options = ScanOptions::new(1, 113, 3, 1, 2, 1, 2026).ok_or("options")?;
     let wanted = b"0 0 ]E0 (01)09501101530003\n0 1 ]E0 (01)09501101530003\n";
     reads_both_alone(&rt, WholeInput::Scan(options), TWO_LABELS, wanted)
+}
+
+#[test]
+fn run_lanes_itself_passes_the_gate(rt: HostRuntime) -> Result<(), Fail> {
+    let alloc = rt.alloc();
+    let options = options_of(1, 2)?;
+    let input = format!(in alloc; "0,{EAN13}\n0,{EAN8}\n")?;
+    let gate = Holding::new(alloc, &[2], ticket(0, 0), ticket(0, 1))?;
+    let mut source = FromReader::new(input.as_bytes());
+    let mut sink = ToWriter::new(Vec::new(alloc));
+    assert!(rt; run_lanes(&rt, alloc, options, &mut source, &mut sink, &gate).is_ok());
+    assert!(rt; gate.saw_each_once());
+    let wanted = b"0 0 ]E0 (01)09501101530003\n0 1 ]E4 (01)00000096385074\n";
+    is_equal(&rt, sink.into_inner().as_slice(), wanted);
+    Ok(())
+}
+
+#[test]
+fn run_scan_itself_passes_the_gate(rt: HostRuntime) -> Result<(), Fail> {
+    let alloc = rt.alloc();
+    let options = ScanOptions::new(1, 113, 3, 1, 2, 2, 2026).ok_or("options")?;
+    let gate = Holding::new(alloc, &[2], ticket(0, 0), ticket(0, 1))?;
+    let mut source = FromReader::new(TWO_LABELS);
+    let mut sink = ToWriter::new(Vec::new(alloc));
+    assert!(rt; run_scan(&rt, alloc, options, &mut source, &mut sink, &gate).is_ok());
+    assert!(rt; gate.saw_each_once());
+    let wanted = b"0 0 ]E0 (01)09501101530003\n0 1 ]E0 (01)09501101530003\n";
+    is_equal(&rt, sink.into_inner().as_slice(), wanted);
+    Ok(())
 }
 
 #[test]

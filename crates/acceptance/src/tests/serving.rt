@@ -184,7 +184,7 @@ fn serve_in_order<R: Threads + Wait + AllocGlobal + Sync + Abort>(
 
 #[test]
 fn many_rows_and_workers_change_no_order(rt: HostRuntime) -> Result<(), Fail> {
-    let worker_counts: &[u8] = &[1, 4, 16];
+    let worker_counts: &[u8] = &[1, 4, 5, 9, 16];
     for &workers in worker_counts {
         serve_in_order(&rt, workers)?;
     }
@@ -276,7 +276,7 @@ fn serves_three_lanes<R: Threads + Wait + AllocGlobal + Sync + Abort>(
 
 #[test]
 fn any_number_of_workers_serves_the_same(rt: HostRuntime) -> Result<(), Fail> {
-    let worker_counts: &[u8] = &[1, 2, 3, 16];
+    let worker_counts: &[u8] = &[1, 2, 3, 5, 9, 16];
     for &workers in worker_counts {
         serves_three_lanes(&rt, workers)?;
     }
