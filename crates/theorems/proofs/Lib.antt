@@ -1,1 +1,2 @@
+mod LiveEnds
 pub mod OneMeaning

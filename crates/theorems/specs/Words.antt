@@ -1,5 +1,5 @@
 -- The words of the theorems: those of the crates below, passed on, and a few of their own.
-pub use Rattle.std.specs.List.{AllByRecursion, AllZip}
+pub use Rattle.std.specs.List.{AllZip}
 pub use Rattle.digits_core.specs.Digits.{AreAsciiDigits, AreDigits, IsChecked, digits_of}
 pub use Rattle.digits_core.specs.Upce.{IsUpceOf}
 pub use Rattle.element_core.specs.Elements.{Entry, IsElements, gtin_entry}
@@ -15,7 +15,7 @@ pub use Rattle.code128_code.specs.declared.fault.Code128Fault.TheVariants.{Check
 pub use Rattle.scan_core.specs.Answers.{IsAnswer, Reads}
 pub use Rattle.scan_core.specs.Row.{IsRow, dots_of}
 pub use Rattle.scan_core.specs.Showing.{Shows, Way, kind_of}
-pub use Rattle.scan_core.specs.Windows.{AreSymbolsOf, AreTold, search_of}
+pub use Rattle.scan_core.specs.Windows.{AreSymbolsOf, AreTold}
 pub use Rattle.scan_core.specs.declared.answer.Answer.{Answer as Said}
 pub use Rattle.scan_core.specs.declared.answer.Answer.TheVariants.{Refused}
 pub use Rattle.scan_core.specs.declared.carrier.Carrier.{Carrier}
@@ -23,12 +23,10 @@ pub use Rattle.scan_core.specs.declared.carrier.Carrier.TheVariants.{Gs1128}
 pub use Rattle.scan_core.specs.declared.fault.RowFault.TheVariants.{Code128, SymbolCheckDigit}
 pub use Rattle.scan_core.specs.declared.window.Window.{Window}
 pub use Rattle.sheet_core.specs.BarRows.{IsBarRow, label_answer}
-pub use Rattle.sheet_core.specs.Bitmaps.{Bitmap}
-pub use Rattle.sheet_core.specs.Drawing.{ArePrinted, bar_dots}
+pub use Rattle.sheet_core.specs.Drawing.{bar_dots}
 pub use Rattle.sheet_core.specs.Grids.{Cells, IsGrid}
 pub use Rattle.sheet_core.specs.Labels.{Drawn, FitsCell, IsDrawn, label_text}
 pub use Rattle.sheet_core.specs.declared.label.Label.{Label}
-pub use Rattle.sheet_core.specs.pbm.Images.{images_of, pbm_of}
 pub use Rattle.shop_core.specs.Drawings.{IsDrawingOf}
 pub use Rattle.lane_core.specs.declared.job.Plain.{Plain}
 pub use Rattle.hub_core.specs.Hubs.{AreAllSeats, year_of}
@@ -36,15 +34,21 @@ pub use Rattle.hub_core.specs.Lane.{AreSettled, Lane}
 pub use Rattle.hub_core.specs.Lanes.{as_lane}
 pub use Rattle.hub_core.specs.Laws.{AreAnswersOf}
 pub use Rattle.hub_core.specs.Serving.{served}
-pub use Rattle.wire_core.specs.Lines.{most_line, pieces_of}
-pub use Rattle.csv_records.specs.input.Records.{AreItems, records_of}
+pub use Rattle.wire_core.specs.Events.{Event, was_read, was_written}
+pub use Rattle.wire_core.specs.Lines.{most_line}
+pub use Rattle.csv_records.specs.input.Records.{AreItems, Fields, records_of}
 pub use Rattle.csv_records.specs.lanes.Feeds.{LaneRow, feeds_of, lanes_meaning}
+pub use Rattle.command_line.specs.declared.commands.lanes.options.LaneOptions.{LaneOptions}
+pub use Rattle.command_line.specs.declared.commands.print.options.PrintOptions.{PrintOptions}
+pub use Rattle.command_line.specs.declared.commands.scan.options.ScanOptions.{ScanOptions}
+pub use Rattle.command_runs.specs.Grids.{cells_of}
+pub use Rattle.command_runs.specs.Laws.{IsPrintFor}
+pub use Rattle.command_runs.specs.commands.Scans.{IsScan}
 pub use Rattle.command_runs.specs.live.Laws.{IsPlain, IsReordered, record_lines}
 pub use Rattle.command_runs.specs.live.Replies.{most_rows}
-pub use Rattle.command_runs.specs.live.Text.{Answers, fields_in}
 pub use Rattle.element_core.specs.declared.form.Form.TheVariants.{HumanReadable}
-pub use Rattle.command_runs.specs.Printed.{AreScanned, SaysElements, labels_answers}
-use Rattle.std.specs.Prelude.{◌≡◌, ◌≢◌, ◌<◌, ◌≤◌, ◌⊎◌, ◌++◌, ◌∷◌, [], ℕ, List, Result, Ok, Err, Some, length, slice_index, slice_index_or, slice_set}
+pub use Rattle.command_runs.specs.Printed.{labels_report}
+use Rattle.std.specs.Prelude.{◌≡◌, ◌≢◌, ◌<◌, ◌≤◌, ◌⊎◌, ◌++◌, ◌∷◌, [], ℕ, All, List, Result, Ok, Err, Some, length, slice_index, slice_index_or, slice_set}
 use Rattle.ean_code.specs.Spelling.{IsGtinOf}
 use Rattle.ean_code.specs.Symbols.{digit_count}
 use Rattle.element_core.specs.Elements.{FirstFault}
@@ -104,15 +108,6 @@ pub record ShowsReplacedCharacter (row : List ℕ) : Type 0 where
   pub one : OneReplaced (characters_of start values (mod103 start values)) (characters_of other others last)
   pub shows : Shows row Gs1128 way modules
 
--- labels were printed in a grid, written as images, read again and scanned in the same grid, with these answers
-pub record ArePrintedAndScanned (labels : List Label) (g : Cells) (year : Terms) (answers : List (List Said)) : Type 0 where
-  pub printed : List Bitmap
-  pub sheets : List Bitmap
-  pub are_printed : ArePrinted labels g printed
-  pub few : length printed ≤ 4096
-  pub read : images_of (pbm_of printed) ≡ (Ok sheets, [])
-  pub scanned : AreScanned g sheets year answers
-
 -- the row has the dots of what is drawn of the label in a cell
 pub record ShowsDrawn (g : Cells) (label : Label) (row : List ℕ) : Type 0 where
   pub drawn : Drawn
@@ -125,3 +120,17 @@ pub record ShowsDrawn (g : Cells) (label : Label) (row : List ℕ) : Type 0 wher
 -- these are the answers of what a lane has polled, and then of its list
 abbrev pub AnswerLane : Lane → List (List Plain) → List Said → Type 0
 AnswerLane lane lists said = AreAnswersOf (lane.polled ++ slice_index_or lists lane.number []) said
+
+-- a plain text of records, each of which means a row, with no line too long and no more rows in a lane than can be numbered
+pub record AreRows (lanes : ℕ) (bytes : List ℕ) (rows : List LaneRow) : Type 0 where
+  pub plain : IsPlain bytes
+  pub short : All (λ line. length line ≤ most_line) (record_lines bytes)
+  pub meant : AreItems (lanes_meaning lanes) (records_of bytes) rows
+  pub few : All (λ feed. length feed ≤ most_rows) (feeds_of lanes rows)
+
+-- nothing more comes over the wire, and if all that was read of it are rows, what was written answers each, in the order that `lanes` would sort
+pub record AreAnsweredAsByLanes {W : Type 0} (asked : LaneOptions) (did : W → W → List Event → Type 0) (at_end : W → Type 0) (wire after : W) : Type 0 where
+  pub events : List Event
+  pub were_done : did wire after events
+  pub ended : at_end after
+  pub answered : (rows : List LaneRow) → AreRows asked.lanes (was_read events) rows → IsReordered asked.lanes asked.year rows (was_written events)

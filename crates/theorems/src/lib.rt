@@ -1,18 +1,22 @@
 //! What is proved of the product, a sentence and a contract for each: begin reading here.
 #![tactic(auto)]
 
-ghost use Rattle.std.specs.Prelude.{◌≡◌, ◌↔◌, ◌≤◌, ℕ, All, IfOk, List, Some, length, map, reverse, slice_get};
-ghost use Rattle.theorems.specs.Words.{AllByRecursion, AnswerLane, Answers, AreAllSeats, AreItems, ArePrintedAndScanned, AreSettled, AreSymbolsOf, AreTold, Cells, CheckCharacter, Code128, Entry, ExactlyOne, HumanReadable, IsAnswer, IsBarRow, IsElements, IsPlain, IsReordered, IsRow, Label, Lane, LaneRow, Means, Plain, Reads, Refused, Said, SaysElements, ShowsReplacedCharacter, ShowsReplacedDigit, SymbolCheckDigit, Terms, Window, as_lane, feeds_of, fields_in, label_answer, label_text, labels_answers, lanes_meaning, most_line, most_rows, pieces_of, record_lines, records_of, search_of, year_of};
+ghost use Rattle.std.specs.Prelude.{◌≡◌, ◌↔◌, ℕ, [], IfOk, List, OnOk, Some, map, reverse, slice_get};
+ghost use Rattle.theorems.specs.Words.{AnswerLane, AreAllSeats, AreAnsweredAsByLanes, AreSettled, AreSymbolsOf, AreTold, CheckCharacter, Code128, Entry, ExactlyOne, Fields, HumanReadable, IsAnswer, IsBarRow, IsElements, IsPrintFor, IsRow, IsScan, Label, Lane, Means, PrintOptions, Reads, Refused, Said, ScanOptions, ShowsReplacedCharacter, ShowsReplacedDigit, SymbolCheckDigit, Terms, Window, as_lane, cells_of, label_answer, label_text, labels_report, year_of};
 
 mod further;
 
+use command_line::LiveOptions;
+use command_runs::CommandFault;
 use element_core::Year;
 pub use further::{Lists, a_drawn_label_is_read, check_digit, draw, profile_within, read_message, serve};
-use hub_core::Unsettled;
-use scan_core::{Answer, Runs};
+use hub_core::{Gate, Unsettled};
+use scan_core::{Answer, RunFault, Runs, Symbols};
 use sheet_core::{Grid, Label, Sheet, SheetFault};
 use std::alloc::Global;
 use std::sync::Wait;
+use std::thread::Threads;
+use wire_core::Wire;
 
 /// A text has exactly one meaning: a list of elements, or its first fault.
 pub fn each_text_has_one_meaning()
@@ -33,11 +37,13 @@ pub fn answer_of(row: &Runs, year: Year) -> Answer
     scan_core::read_row(row, year)
 }
 
-/// A search finds every symbol of a row, from left to right.
-pub fn all_symbols_are_found()
-    ensures { (row : List ℕ) (year : Terms) (found : List Window) → IsRow row → AreTold (search_of row year) found → AreSymbolsOf row year found }
+/// A search finds every symbol of a row, from left to right: its calls tell one after the other, and then that there is none.
+pub fn search<'a>(widths: &'a [u16], year: Year) -> Result<Symbols<'a>, RunFault>
+    ensures { IfOk result (λ search. (found : List Window) → AreTold search found → AreSymbolsOf widths.now year found) }
 {
+    scan_core::row_or_fault();
     scan_core::symbols_are_told();
+    Symbols::of_widths(widths, year)
 }
 
 /// If one checked digit or character of a symbol is replaced, its row is refused for that.
@@ -59,37 +65,36 @@ pub fn print_sheets(alloc: Global, labels: &[Label], grid: Grid) -> Result<Vec<S
     sheet_core::print_sheets(alloc, labels, grid)
 }
 
-/// Labels that are printed, written as images, read again and scanned in the same grid have their answers, cell by cell.
+/// What `print` writes as images, `scan` takes in the same grid and year, and writes the report of the labels, cell by cell, and no other text.
 pub fn what_print_writes_scan_reads()
-    ensures { (labels : List Label) (g : Cells) (year : Terms) (answers : List (List Said)) → AllByRecursion (SaysElements year) labels
-        → ArePrintedAndScanned labels g year answers → answers ≡ labels_answers g year labels }
+    ensures { (scan : ScanOptions) (print : PrintOptions) (rows : List Fields) (labels : List Label) (bytes text : List ℕ)
+        → IsPrintFor scan print rows labels bytes → IsScan scan bytes text ↔ (text ≡ labels_report (cells_of scan.grid) scan.year labels) }
 {
-    command_runs::written_answer();
+    command_runs::printed_is_scanned();
 }
 
-/// Whatever the threads of 1 to 16 lanes and workers did: what a lane polled, followed by its list, are the deliveries of its rows, in order and each once.
+/// Whatever the threads of 1 to 16 lanes and workers did: what a lane polled, and then its list, delivers the answers to its rows, in order and each once.
 pub fn settle<R: Wait>(rt: &R, alloc: Global, all: Unsettled) -> Result<Lists, Unsettled>
     requires { AreAllSeats all.hub all.lanes.items all.workers.items all.deliverer }
-    ensures { IfOk result (λ lists. AreSettled (year_of all.hub) (map as_lane all.lanes.items) (map (λ list. list.items) lists.items)) }
+    ensures settled { IfOk result (λ lists. AreSettled (year_of all.hub) (map as_lane all.lanes.items) (map (λ list. list.items) lists.items)) }
+    ensures answered { IfOk result (λ lists. (i : ℕ) (lane : Lane) (said : List Said) → slice_get (map as_lane all.lanes.items) i ≡ Some lane
+        → AnswerLane lane (map (λ list. list.items) lists.items) said → Reads lane.rows (year_of all.hub) said) }
 {
+    hub_core::headline();
     hub_core::Hub::settle(all.hub, rt, alloc, all.lanes, all.workers, all.deliverer)
 }
 
-/// What a settled lane polled, followed by its list, has the answers to its rows.
-pub fn a_settled_lane_is_answered()
-    ensures { (year : Terms) (lanes : List Lane) (lists : List (List Plain)) (i : ℕ) (lane : Lane) (said : List Said) → AreSettled year lanes lists
-        → slice_get lanes i ≡ Some lane → AnswerLane lane lists said → Reads lane.rows year said }
+/// If each record that `live` read is a row, what it wrote until it ended well is, sorted by lane, what `lanes` writes of these rows.
+pub fn live<R: Threads + Wait + Sync, W: Wire + Drop, G: Gate + Sync>(
+    rt: &R,
+    alloc: Global,
+    options: LiveOptions,
+    wire: W,
+    gate: &G,
+) -> (W, Result<(), CommandFault>)
+    requires fresh { W.Did wire wire [] }
+    ensures { options.form ≡ HumanReadable → OnOk result.1 (AreAnsweredAsByLanes options.rows W.Did W.at_end wire result.0) }
 {
-    hub_core::headline();
-}
-
-/// `live` answers each plain line that means a row, in order; sorted by lane, its answers are what `lanes` reports.
-pub fn live_answers_as_lanes_does()
-    ensures records { (bytes : List ℕ) → IsPlain bytes → records_of bytes ≡ map fields_in (record_lines bytes) }
-    ensures report { (lanes : ℕ) (year : Terms) (bytes text : List ℕ) (rows : List LaneRow) → IsPlain bytes → All (λ line. length line ≤ most_line) (record_lines bytes)
-        → AreItems (lanes_meaning lanes) (records_of bytes) rows → All (λ feed. length feed ≤ most_rows) (feeds_of lanes rows)
-        → Answers lanes HumanReadable year (pieces_of bytes) text → IsReordered lanes year rows text }
-{
-    command_runs::lines_are_records();
     command_runs::lines_are_report();
+    command_runs::run_live(rt, alloc, options, wire, gate)
 }
