@@ -217,7 +217,4 @@ const answerOf = ({ identifier, symbol, elements }) => new Answer(identifier || 
 const bytesOf = (text) => (typeof text === "string" ? new TextEncoder().encode(text) : text);
 const latin1 = (bytes) => String.fromCharCode(...bytes);
 
-export async function load() {
-  const { instance } = await WebAssembly.instantiate(Uint8Array.from(atob(MODULE), (letter) => letter.charCodeAt(0)), {});
-  return new Gs1(new Calls(instance.exports, 32));
-}
+export const load = async () => new Gs1(await Calls.load(MODULE, 32));

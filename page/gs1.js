@@ -27,8 +27,10 @@ class Gs1 {
     return typeof WebAssembly === "object" && WebAssembly.validate(Uint8Array.of(...Gs1.header, ...Gs1.memories[bits]));
   }
 
-  // The module of these bytes, whose memory has addresses of this many bits.
-  static async load(bytes, bits) {
+  // The module in this base64 text, whose memory has addresses of this many bits. A loop is many times as fast as `Uint8Array.from`.
+  static async load(base64, bits) {
+    const text = atob(base64), bytes = new Uint8Array(text.length);
+    for (let i = 0; i < bytes.length; i++) bytes[i] = text.charCodeAt(i);
     const { instance } = await WebAssembly.instantiate(bytes, {});
     return new Gs1(instance.exports, bits);
   }

@@ -16,6 +16,11 @@ const firstTask = () => TASKS.includes(location.hash.slice(1)) ? location.hash.s
 
 function changeLanguage(chosen) {
   speak(chosen);
+  showAll();
+}
+
+// Everything that has words of the language, beside the page's own texts.
+function showAll() {
   fillStocks();
   fillModules();
   document.made = makeLabels();
@@ -55,7 +60,7 @@ async function start() {
   if (!built[64]) return stop(t("noModule"));
   const bits = [64, 32].find((width) => built[width] && Gs1.runs(width));
   if (!bits || typeof CompressionStream !== "function" || typeof OffscreenCanvas !== "function" || !Array.prototype.toSorted) return stop(t("oldBrowser"));
-  gs1 = await Gs1.load(Uint8Array.from(atob(built[bits]), (c) => c.charCodeAt(0)), bits);
+  gs1 = await Gs1.load(built[bits], bits);
   for (const listen of [listenToTabs, listenToList, listenToScanned, listenToLabels, listenToCheck, listenToRead, listenToCamera]) listen();
   for (const form of document.forms) form.addEventListener("submit", (event) => event.preventDefault());
   for (const field of document.querySelectorAll("[data-year]")) {
@@ -63,7 +68,7 @@ async function start() {
     field.addEventListener("input", changeYear);
   }
   takeKept();
-  changeLanguage(language);
+  showAll();
   at("own").hidden = at("stock").value !== "own";
   showTask(firstTask());
   serve();

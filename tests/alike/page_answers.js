@@ -7,7 +7,7 @@ const page = path.join(__dirname, "../../page");
 for (const name of "gs1.module gs1 ais values shop core symbol".split(" ")) vm.runInThisContext(fs.readFileSync(path.join(page, `${name}.js`), "utf8"), name);
 
 const inPage = vm.runInThisContext(`({
-  async load() { gs1 = await Gs1.load(Uint8Array.from(atob(GS1_WASM_32), (c) => c.charCodeAt(0)), 32); core.year = 2026; },
+  async load() { gs1 = await Gs1.load(GS1_WASM_32, 32); core.year = 2026; },
   answer(line) {
     const text = line.slice(2);
     const { refused: wrong, identifier, symbol, elements } = line[0] === "-" ? core.scan("^" + text) : line[0] === "=" ? core.scan(text) : {};

@@ -4,7 +4,7 @@
 
 const fs = require("fs"), path = require("path"), vm = require("vm");
 const page = path.join(__dirname, "../../page");
-const scripts = [...fs.readFileSync(path.join(page, "index.html"), "utf8").matchAll(/<script src="(.*?)">/g)].map((found) => found[1]);
+const scripts = [...fs.readFileSync(path.join(page, "index.html"), "utf8").matchAll(/<script defer src="(.*?)">/g)].map((found) => found[1]);
 
 // Those that speak of the document are left out.
 for (const name of scripts.slice(0, scripts.indexOf("values.js") + 1)) {
@@ -13,7 +13,7 @@ for (const name of scripts.slice(0, scripts.indexOf("values.js") + 1)) {
 
 const inPage = vm.runInThisContext(`({
   runs: (bits) => Gs1.runs(bits),
-  load: () => Gs1.load(Uint8Array.from(atob(GS1_WASM_32), (c) => c.charCodeAt(0)), 32),
+  load: () => Gs1.load(GS1_WASM_32, 32),
   gtin: (gs1, text) => gs1.told("gs1_c_gtin", ...gs1.put(text)),
   elements: (gs1, text) => gs1.told("gs1_c_text", ...gs1.put(text), 2026),
   symbol: (gs1, kind, text) => gs1.told("gs1_c_symbol", Gs1.kinds.indexOf(kind), ...gs1.put(text), 2026),

@@ -14,7 +14,7 @@ for (const name of "gs1.module gs1 ais values shop ui core fonts stock encodings
 vm.runInThisContext(fs.readFileSync(path.join(__dirname, "told.js"), "utf8"), "told");
 
 const load = vm.runInThisContext(`async () => {
-  gs1 = await Gs1.load(Uint8Array.from(atob(GS1_WASM_32), (c) => c.charCodeAt(0)), 32);
+  gs1 = await Gs1.load(GS1_WASM_32, 32);
   core.year = 2026;
 }`);
 
