@@ -57,7 +57,7 @@ function withoutDoubles(articles, numbers, wrong) {
   const known = new Set([...articles.filter(({ fault }) => fault), ...wrong].map(({ line }) => line));
   const doubles = new Map([...numbers.values()].flatMap(doublesOf));
   return articles.map((article) => article.fault || known.has(article.line) || !doubles.has(article.line) ? article
-    : { ...article, fault: { key: "sameNumber", values: [doubles.get(article.line)] } });
+    : { ...article, fault: { key: "sameNumber", values: [String(doubles.get(article.line))] } });
 }
 
 // The lines that say different things of a number, each with another such line.

@@ -62,7 +62,7 @@ function check() {
   at("check-clear").hidden = !at("texts").value;
   at("check-tools").hidden = !answers.length;
   at("answers").replaceChildren(...shown.slice(0, MOST_ANSWERS).map(answerItem));
-  at("answers-more").textContent = answers.length > MOST_ANSWERS ? t("answersMore", answers.length - MOST_ANSWERS) : "";
+  at("answers-more").textContent = answers.length > MOST_ANSWERS ? t("answersMore", countText(answers.length - MOST_ANSWERS)) : "";
 }
 
 function answerItem(answer, i) {

@@ -73,7 +73,7 @@ function eachInTime(turn, from) {
     for (let i = 0; i < list.length; i++) {
       work(list[i]);
       if (performance.now() - last < 60) continue;
-      if (performance.now() - from > 300) at("labels-told").textContent = t("drawing", (i + 1).toLocaleString(language), list.length.toLocaleString(language));
+      if (performance.now() - from > 300) at("labels-told").textContent = t("drawing", countText(i + 1), countText(list.length));
       await pause();
       if (turn !== shop.turns) return false;
       last = performance.now();
@@ -114,10 +114,10 @@ function showSheet() {
   shop.page = Math.min(shop.page, count - 1);
   const used = shop.page ? 0 : firstCell(stock), sheet = svgElement(svgOfPage(pageOf(shop.page), stock, dots, gridOf(stock, dots, used)));
   sheet.setAttribute("role", "img");
-  sheet.setAttribute("aria-label", labels.length ? t("sheetLabel", shop.page + 1, count, pageOf(shop.page).map(({ drawing: { item } }) => [item.name.slice(0, MOST_NAME_TOLD), item.price, item.text].filter(Boolean).join(" ")).join("; ")) : t("sheetEmpty"));
+  sheet.setAttribute("aria-label", labels.length ? t("sheetLabel", countText(shop.page + 1), countText(count), pageOf(shop.page).map(({ drawing: { item } }) => [item.name.slice(0, MOST_NAME_TOLD), item.price, item.text].filter(Boolean).join(" ")).join("; ")) : t("sheetEmpty"));
   at("paper").replaceChildren(sheet);
   at("paper").className = `${shop.zoom}${stock.isRoll ? " roll" : ""}`;
-  at("sheet-no").textContent = t("sheetNo", shop.page + 1, count);
+  at("sheet-no").textContent = t("sheetNo", countText(shop.page + 1), countText(count));
   at("back").disabled = !shop.page;
   at("next").disabled = shop.page >= count - 1;
   at("pager").hidden = count < 2;

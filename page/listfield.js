@@ -154,9 +154,9 @@ function showFaults(faults) {
   at("faults-title").textContent = many("faultCount", faults.length);
   at("fault-list").replaceChildren(...faults.slice(0, MOST_FAULTS_SHOWN).map(faultItem));
   at("faults-more").textContent = faults.length > MOST_FAULTS_SHOWN
-    ? t("faultsMore", faults.length - MOST_FAULTS_SHOWN) : "";
+    ? t("faultsMore", countText(faults.length - MOST_FAULTS_SHOWN)) : "";
   at("fix-all").hidden = fixes < 2;
-  at("fix-all").textContent = t("fixAll", fixes);
+  at("fix-all").textContent = t("fixAll", countText(fixes));
   at("free").checked = asked.isFree;
   at("free-field").hidden = !asked.isFree && !faults.some(({ fault }) => fault.key === "zeroPrice");
 }

@@ -21,8 +21,11 @@ function t(key, ...values) {
   return filledText(TEXTS[language].page[key] ?? TEXTS.en.page[key] ?? key, values);
 }
 
+// A count, as the language writes it.
+const countText = (count) => count.toLocaleString(language);
+
 // The text for a count: that of `key1` for one.
-const many = (key, count, ...values) => t(count === 1 ? `${key}1` : key, count.toLocaleString(language), ...values);
+const many = (key, count, ...values) => t(count === 1 ? `${key}1` : key, countText(count), ...values);
 
 // A button for each language.
 function fillLanguages(changed) {
@@ -169,7 +172,7 @@ function faultText({ key, values = [] }) {
 function valueText(value) {
   if (Array.isArray(value)) return value.map(faultText).join(t("orWay"));
   if (value.list) return value.list.map(faultText).join(value.between ?? ", ");
-  if (typeof value === "number") return value.toLocaleString(language);
+  if (typeof value === "number") return countText(value);
   if (typeof value === "string") return value;
   return value.number === undefined ? faultText(value) : value.number.toLocaleString(language, { minimumFractionDigits: value.places, maximumFractionDigits: value.places, useGrouping: false });
 }

@@ -5,7 +5,7 @@ from typing import NamedTuple, Sequence
 
 from ._encodings import decoded
 from ._lists import LIMIT, Fault, Faults, Sheet, sheets_of
-from ._shop import said, told
+from ._shop import count_text, said, told
 
 _OTHER_FILES = ((b"%PDF-", "pdf"), (b"\x89PNG", "picture"), (b"\xff\xd8\xff", "picture"), (b"\x1f\x8b", "packed"))
 _PICTURES = ("pdf", "picture")
@@ -27,13 +27,13 @@ def opened_list(data: bytes, encoding: str = "", most: int = LIMIT) -> Opened:
     :raises Faults: it is too long, empty, or no list.
     """
     if len(data) > LIMIT:
-        raise Faults([Fault(1, said("tooLarge", f"{LIMIT:,}"))])
+        raise Faults([Fault(1, said("tooLarge", count_text(LIMIT)))])
     if data.startswith(b"PK\x03\x04"):
         from ._spreadsheets import opened_book  # Imported only here, since it takes time.
 
         sheet, notes = opened_book(data)
         if len(sheet.records) > most:
-            raise Faults([Fault(1, said("manyLines", f"{most:,}"))])
+            raise Faults([Fault(1, said("manyLines", count_text(most)))])
         return Opened([sheet], notes)
     if data.startswith(_OLD_SPREADSHEET):
         is_encrypted = "EncryptedPackage".encode("utf-16-le") in data

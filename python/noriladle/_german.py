@@ -53,7 +53,7 @@ TEXTS: Dict[str, str] = {
     "The printer's dots an inch: 203, 300 or 600 [default: 300; label printers 203]":
         "Punkte des Druckers je Zoll: 203, 300 oder 600 [sonst: 300; Etikettendrucker 203]",
     "Width of the narrowest bar [default: 0.33; ITF-14 and GS1-128 0.495]":
-        "Breite des schmalsten Strichs [sonst: 0.33; ITF-14 und GS1-128 0.495]",
+        "Breite des schmalsten Strichs [sonst: 0,33; ITF-14 und GS1-128 0,495]",
     "Height of the bars [default: the standard's, if there is room]":
         "Höhe der Striche [sonst: die der Norm, wenn Platz ist]",
     "Draw a bar above and below each ITF-14": "Über und unter jedem ITF-14 einen Balken zeichnen",
@@ -87,8 +87,8 @@ TEXTS: Dict[str, str] = {
     " or ": " oder ",
     "there is no page {0!r}: it is one of {1}": "die Seite {0!r} gibt es nicht, nur {1}",
     "the stock {0!r} has no labels of {1:g} to {2:g} mm": "{0!r} hat keine Etiketten von {1:g} bis {2:g} mm",
-    "the labels of {0!r} are larger than their page of {1:g} x {2:g} mm":
-        "die Etiketten von {0!r} sind größer als ihre Seite von {1:g} x {2:g} mm",
+    "the labels of {0!r} are larger than their page of {1} x {2} mm":
+        "die Etiketten von {0!r} sind größer als ihre Seite von {1} x {2} mm",
     """
 LIST is a CSV file or a spreadsheet, .xlsx or .ods. Its headings say which column is gtin (or ean, upc) or gs1, name,
 price, copies, kind (ean13, upca, ean8, upce, itf14 or gs1128) and line 1, line 2, .. in English, German, French, Spanish,

@@ -5,7 +5,7 @@ import csv
 import re
 from typing import Iterator, List, NamedTuple, Sequence
 
-from ._shop import said
+from ._shop import count_text, said
 
 LIMIT = 16_777_216
 """The most bytes of a list: the limit of ``gs1_hub``'s input."""
@@ -79,7 +79,7 @@ def sheets_of(text: str, most: int) -> List[Sheet]:
         found = [_sheet(text, it, 1, most) for it in _DELIMITERS if it == WHOLE_LINES or it in text]
     sheets = [sheet for sheet in found if len(sheet.records) + len(sheet.faults) <= most]
     if not sheets:
-        raise Faults([Fault(1, said("manyLines", f"{most:,}"))])
+        raise Faults([Fault(1, said("manyLines", count_text(most)))])
     if not any(sheet.records or sheet.faults for sheet in sheets):
         raise Faults([Fault(1, said("emptyList"))])
     return sheets

@@ -7,7 +7,7 @@ import re
 from decimal import Decimal
 from typing import NamedTuple
 
-from ._shop import decimal_sign
+from ._shop import localized
 
 _USUAL = {1: "0", 2: "0.00", 3: "#,##0", 9: "0%", 10: "0.00%", **dict.fromkeys((4, 39, 40, 43, 44), "#,##0.00")}
 """Excel's own formats of numbers."""
@@ -63,8 +63,7 @@ def written(text: str, form: Format = Format()) -> str:
         shown = f"{value:{',' if form.is_grouped else ''}.{form.decimals}f}"
     else:
         shown = in_full(value)
-    local = shown.translate(str.maketrans(",.", ".,")) if decimal_sign() == "," else shown
-    return f"{form.before}{local}{form.after}"
+    return f"{form.before}{localized(shown)}{form.after}"
 
 
 def in_full(value: Decimal) -> str:

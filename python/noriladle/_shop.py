@@ -45,6 +45,16 @@ def decimal_sign() -> str:
     return sign
 
 
+def localized(number: str) -> str:
+    """A number with commas between thousands and a point before decimals, as the language writes it: in German 20.000 and 8,3."""
+    return number.translate(str.maketrans(",.", ".,")) if decimal_sign() == "," else number
+
+
+def count_text(number: int) -> str:
+    """A whole number, as the language writes it."""
+    return localized(f"{number:,}")
+
+
 def told(name: str, *values: object) -> str:
     """A sentence of the commands, with these values in it."""
     sentence: str = file_of(_language)["command"][name]
@@ -62,7 +72,7 @@ def translated(text: str, *values: object) -> str:
 
 def counted(name: str, number: int, *values: object) -> str:
     """A sentence of the commands that begins with a number of things."""
-    return told(name if number != 1 else f"{name}1", f"{number:,}", *values)
+    return told(name if number != 1 else f"{name}1", count_text(number), *values)
 
 
 def said(fault: object, *values: object) -> str:
@@ -84,4 +94,4 @@ def runs_of(lines: Sequence[int]) -> str:
 
 def sentence_of_lines(fault: str, lines: Sequence[int]) -> List[str]:
     """A sentence that counts some lines and names them, or nothing if there are none."""
-    return [said(fault if len(lines) > 1 else f"{fault}1", f"{len(lines):,}", runs_of(lines))] if lines else []
+    return [said(fault if len(lines) > 1 else f"{fault}1", count_text(len(lines)), runs_of(lines))] if lines else []

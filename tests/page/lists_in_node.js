@@ -1,5 +1,6 @@
 // Reads lists in Node as the page does: each JSON line of standard input has a list's bytes in base64, and gets a line with its articles and the
-// errors of its other lines, in the words of shop/en.json. PAGE may name another folder with the page's scripts.
+// errors of its other lines, in the words of shop/en.json, or in those of the language that is the argument. PAGE may name another folder
+// with the page's scripts.
 "use strict";
 
 const fs = require("fs"), path = require("path"), readline = require("readline"), vm = require("vm");
@@ -13,13 +14,14 @@ for (const name of "gs1.module gs1 ais values shop ui core fonts stock encodings
 
 vm.runInThisContext(fs.readFileSync(path.join(__dirname, "told.js"), "utf8"), "told");
 
-const load = vm.runInThisContext(`async () => {
+const load = vm.runInThisContext(`async (chosen) => {
+  language = chosen;
   gs1 = await Gs1.load(GS1_WASM_32, 32);
   core.year = 2026;
 }`);
 
 async function main() {
-  await load();
+  await load(process.argv[2] ?? "en");
   for await (const line of readline.createInterface({ input: process.stdin })) {
     console.log(JSON.stringify(await toldOf(new Uint8Array(Buffer.from(line, "base64")))));
   }

@@ -1,7 +1,7 @@
 """Compares how the page and `noriladle labels` read lists: they must find the same articles, and report the same errors.
 
 Usage: same_lists.py COUNT. Makes this many lists, most of them damaged, takes those of tests/labels and 1,000 that its generator
-damages, asks both, and prints what differs. Its last line is the counts.
+damages, asks both, and prints what differs. Some are asked in German, too. Its last line is the counts.
 """
 import base64
 import csv
@@ -18,12 +18,15 @@ ROOT = os.path.dirname(os.path.dirname(os.path.dirname(os.path.abspath(__file__)
 LISTS = os.path.join(ROOT, "tests", "labels")
 sys.path[:0] = [os.path.join(ROOT, "python"), LISTS]
 from damaged_lists import damaged
-from noriladle import Refusal
+from noriladle import Refusal, _shop
 from noriladle._columns import table_of
 from noriladle._fixing import fixed
 from noriladle._lists import Faults
 from noriladle._texts import Unreadable, read_text
 from noriladle.labels._articles import articles_of
+
+GERMAN = 1_000
+"""How many of the lists that are made are asked in German, too."""
 
 NUMBERS = ["4012345010008", "4012345010374", "96385074", "012345000065", "09501101530003", "978-3-16-148410-0", "4012345010375", "4,01235E+12",
            "12345000065", "1234565", "01234565", "4012345010008.0", "123", "", "401234501000x", "0109501101530003", "٤٠١٢٣٤٥٠١٠٠٠٨",
@@ -74,6 +77,12 @@ def made(count):
         yield chance.choice([b"PK\x03\x04", b"%PDF-", b"\x89PNG", b"\x1f\x8b"]) + data if number % 500 == 7 else data
 
 
+def long_lists():
+    """Lists whose errors have numbers above a thousand: of cells, and of a line."""
+    yield b"EAN;Name\n4012345010008" + b";x" * 1_200 + b"\n"
+    yield b"EAN;Name\n4012345010008;x\n" + b";y\n" * 1_200 + b"4012345010008;z\n"
+
+
 def of_shops():
     """The lists of tests/labels, and 1,000 that its generator damages."""
     for path in sorted(glob.glob(f"{LISTS}/lists/*") + glob.glob(f"{LISTS}/saved/ways/*.csv")):
@@ -100,7 +109,8 @@ def by_python(data):
         articles, faults = articles_of(table, 2026)
         doubled = {record.line for record in table.records if table.cell(record, "gs1").strip()}
         # The page corrects a number only if nothing stands in the way of it.
-        other = doubled | {it.line for it in faults if it.said.startswith("there is no kind")}
+        no_kind = _shop.said("noKind", "\0", "").partition("\0")[0]
+        other = doubled | {it.line for it in faults if it.said.startswith(no_kind)}
         fixes = [[it.line, it.after] for it in fixed(table, 2026)[1] if is_unreadable(it.before) and it.line not in other]
         unused, passed, opened = list(table.unused), list(table.passed), list(table.opened)
         faults = sorted([*([table.question] if table.question else []), *faults])
@@ -121,7 +131,7 @@ def is_unreadable(text):
 
 def plainly(said):
     """An error without the command's options."""
-    return re.sub(r", as in --(column|no-price|encoding) ?.*|: noriladle read takes it$| \(--free\)$", "", said, flags=re.DOTALL)
+    return re.sub(r", (as in|etwa mit) --(column|no-price|encoding) ?.*|: noriladle read (takes it|liest sie)$| \(--free\)$", "", said, flags=re.DOTALL)
 
 
 def lines_of(lists):
@@ -129,11 +139,12 @@ def lines_of(lists):
     return b"".join(base64.b64encode(it) + b"\n" for it in lists)
 
 
-def main():
-    shops, lists = list(of_shops()), list(made(int(sys.argv[1])))
-    lists = shops + lists
-    told = subprocess.run(["node", f"{ROOT}/tests/page/lists_in_node.js"], input=lines_of(lists), stdout=subprocess.PIPE, check=True).stdout.decode().split("\n")[:-1]
-    differ = good = faulty = 0
+def differing(lists, language):
+    """How many lists the page and the command answer in different words of a language, and how many articles and errors they have."""
+    told = subprocess.run(["node", f"{ROOT}/tests/page/lists_in_node.js", language], input=lines_of(lists), stdout=subprocess.PIPE, check=True).stdout.decode().split("\n")[:-1]
+    differ = abs(len(lists) - len(told))
+    good = faulty = 0
+    _shop.speak(language)
     for data, line, wanted in zip(lists, told, map(by_python, lists)):
         page = json.loads(line)
         good, faulty = good + len(wanted["articles"]), faulty + len(wanted["faults"])
@@ -141,8 +152,16 @@ def main():
             differ += 1
             if differ <= 20:
                 print(f"differs: {data!r}\n  page   {page}\n  Python {wanted}", file=sys.stderr)
-    print(f"{len(told)} of {len(lists)} lists, {len(shops)} of them of shops, {good} articles and {faulty} faulty lines: page and command differ in {differ}")
-    return differ != 0 or len(told) != len(lists) or len(shops) < 1_060 or good < len(lists) / 2 or faulty < len(lists) / 2
+    return differ, good, faulty
+
+
+def main():
+    shops, others = list(of_shops()), [*long_lists(), *made(int(sys.argv[1]))]
+    lists, in_german = shops + others, shops + others[:GERMAN]
+    (differ, good, faulty), (other, _, _) = differing(lists, "en"), differing(in_german, "de")
+    print(f"{len(lists)} lists, {len(shops)} of them of shops, {good} articles and {faulty} faulty lines: page and command differ in {differ}; "
+          f"{len(in_german)} in German, {other} differ")
+    return differ + other != 0 or len(shops) < 1_060 or good < len(lists) / 2 or faulty < len(lists) / 2
 
 
 if __name__ == "__main__":

@@ -22,7 +22,7 @@ from .. import Ais, Answer, Refusal
 from .._columns import Table, table_of
 from .._lists import Faults, Record
 from .._texts import Unreadable, is_elements, read_text, remedy_of, short, stripped
-from .._shop import counted, told, translated
+from .._shop import count_text, counted, told, translated
 from .._fixing import csv_of, fixed
 from . import REFUSED, RIGHT, Progress, WrongWords, add_ais, add_year, data_of, tell, write_files
 from ._lists import add_list, columns_of, name_of, read_list
@@ -70,14 +70,14 @@ def run(words: argparse.Namespace) -> int:
     progress, count, refused = Progress(), 0, 0
     for checked in checked_lines(table, words.year, words.ais):
         if not sys.stdout.isatty():
-            progress(told("checking", f"{checked.line:,}"))
+            progress(told("checking", count_text(checked.line)))
         count, refused = count + 1, refused + (not checked.answer)
         if not (checked.answer and words.refused):
             sys.stdout.write(f"{json.dumps(_data(checked), ensure_ascii=False) if words.json else _row(checked)}\n")
     progress.end()
     sys.stdout.flush()
     if count:
-        tell(f"{name}: {counted('refusedOf', refused, f'{count:,}') if refused else counted('allRight', count)}")
+        tell(f"{name}: {counted('refusedOf', refused, count_text(count)) if refused else counted('allRight', count)}")
     return REFUSED if refused else RIGHT
 
 

@@ -16,7 +16,7 @@ import sys
 from pathlib import Path
 from typing import TYPE_CHECKING, Callable, Dict, List, Sequence, Tuple
 
-from .._shop import counted, said, told, translated
+from .._shop import count_text, counted, said, told, translated
 from . import REFUSED, RIGHT, Progress, WrongWords, add_year, tell, write_files
 from ._lists import add_list, add_price, columns_of, name_of, read_list
 
@@ -101,7 +101,7 @@ def run(words: argparse.Namespace) -> int:
         made = shop.make(
             prices, stock, words.year, look=look, start=words.start, currency=words.currency, fonts=fonts, shift=words.shift,
             leave_out=words.leave_out, progress=lambda done, of: progress(told("drawing", 100 * done // of)))
-        progress(told("writing", f"{made.sheets:,}"))
+        progress(told("writing", count_text(made.sheets)))
         files = _files(made, form, words)
     except shop.Faults as error:
         progress.end()

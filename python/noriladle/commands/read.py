@@ -21,7 +21,7 @@ import zlib
 from typing import TYPE_CHECKING, Any, Iterator, List, NamedTuple, Optional, Tuple
 
 from .. import Refusal, Symbol
-from .._shop import said, told
+from .._shop import count_text, said, told
 from . import REFUSED, RIGHT, WRONG_WORDS, Progress, add_ais, add_year, data_of, tell
 
 if TYPE_CHECKING:
@@ -87,7 +87,7 @@ def run(words: argparse.Namespace) -> int:
                     tell(f"{page}: {told('noSymbol', _why(shown.reason))}")
                     status = max(status, REFUSED)
         except Refusal as refusal:
-            tell(f"{name}: {told('tooManyPixels', refusal, f'{picture.MOST_PIXELS:,}')}")
+            tell(f"{name}: {told('tooManyPixels', refusal, count_text(picture.MOST_PIXELS))}")
             status = max(status, REFUSED)
         except Unopened as error:
             progress.end()
@@ -129,7 +129,7 @@ def _pages_of(name: str) -> Iterator[Page]:
     except OSError as error:
         raise Unopened(error.strerror or str(error)) from error
     if len(data) > _MOST_BYTES:
-        raise Unopened(told("tooManyBytes", f"{_MOST_BYTES:,}"))
+        raise Unopened(told("tooManyBytes", count_text(_MOST_BYTES)))
     if data[:1024].lstrip().startswith(b"%PDF-"):
         yield from _pdf_pages(name, data)
     elif data[4:12] in _PHOTOS_OF_TELEPHONES:

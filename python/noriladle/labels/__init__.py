@@ -19,7 +19,7 @@ from typing import TYPE_CHECKING, Callable, Dict, Iterator, List, Mapping, Named
 from .. import Refusal, find
 from .._columns import Table, table_of
 from .._lists import MOST_LINES, Fault, Faults
-from .._shop import said, sentence_of_lines, told, translated
+from .._shop import count_text, said, sentence_of_lines, told, translated
 from .._texts import remedy_of
 from ._articles import Article, articles_of
 from ._drawing import RESOLUTIONS, Cell, Drawing, Look, Warned, cell_of, rows_of
@@ -196,7 +196,7 @@ def make(
     if not 1 <= start <= stock.cells:
         raise ValueError(translated("the first label is to be in one of the cells 1 to {0}, and not in {1}", stock.cells, start))
     if sum(article.copies for article in prices.articles) > MOST_LABELS:
-        raise ValueError(translated("the list asks for more than {0} labels: split it", f"{MOST_LABELS:,}"))
+        raise ValueError(translated("the list asks for more than {0} labels: split it", count_text(MOST_LABELS)))
     used, cell = fonts or fonts_of(), cell_of(stock, look)
     articles = [_priced(article, currency) for article in prices.articles]
     items, faults = _each(articles, articles, lambda article: _item(article, cell, used, look, year),

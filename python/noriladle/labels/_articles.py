@@ -10,7 +10,7 @@ from .. import Answer, Kind, Refusal
 from .._amounts import Amounts, price_like
 from .._columns import Table
 from .._lists import Fault, Record
-from .._shop import said
+from .._shop import count_text, said
 from .._texts import Unreadable, digits_of, element_string, is_elements, looks_right, read_text, remedy_of, short, stripped
 
 _BY_LENGTH = {8: Kind.EAN8, 12: Kind.UPCA, 13: Kind.EAN13, 14: Kind.ITF14}
@@ -137,9 +137,9 @@ class _Widths:
         if len(behind) and self._table.delimiter == self._point and re.fullmatch("[0-9]{1,7}", behind[0].strip()):
             raise ValueError(said("wholePrice", behind[0].strip()))
         if beyond:
-            raise ValueError(said("beyond", short(_line(beyond[0])), count, width))
+            raise ValueError(said("beyond", short(_line(beyond[0])), count_text(count), count_text(width)))
         if count < self._table.shortest and (self._is_risky or self._place is not None and count <= self._place):
-            raise ValueError(said("missingCell", count, self._table.shortest))
+            raise ValueError(said("missingCell", count_text(count), count_text(self._table.shortest)))
 
 
 def _is_half(price: str, behind: str) -> bool:
@@ -227,7 +227,7 @@ def _kind(name: str) -> Optional[Kind]:
 def _copies(cell: str) -> int:
     """How many labels a line gets."""
     if cell and not (re.fullmatch(r"[0-9]{1,4}", cell) and int(cell) <= MOST_COPIES):
-        raise ValueError(said("copies", short(cell), f"{MOST_COPIES:,}"))
+        raise ValueError(said("copies", short(cell), count_text(MOST_COPIES)))
     return int(cell or 1)
 
 

@@ -6,7 +6,7 @@ from dataclasses import dataclass
 from typing import Callable, List, NamedTuple, Sequence, Tuple
 
 from .. import Kind
-from .._shop import said, told
+from .._shop import count_text, localized, said, told, translated
 from ._articles import Article
 from ._drawing import DOTS_IN_MM, RESOLUTIONS, Box, Cell, Drawing, Look, Text, Warned
 from ._fonts import PITCH, Block, Fonts, fitted
@@ -82,14 +82,15 @@ def _too_wide(bars: Bars, cell: Cell) -> str:
     """The error that no module has room, with what to do."""
     module, finest = _allowed(bars, cell.dots)[0] / cell.dots, max(RESOLUTIONS)
     least, aside = _allowed(bars, DOTS_IN_MM[finest])[0] / DOTS_IN_MM[finest], cell.aside / cell.dots
-    ways = [said("wider", math.ceil(_needed(bars, module, aside)))]
+    ways = [said("wider", count_text(math.ceil(_needed(bars, module, aside))))]
     if _needed(bars, least, aside) <= cell.width / cell.dots:
         ways.append(f"{said('finer', finest)} (--dpi {finest})")
     if _needed(bars, module, cell.above / cell.dots) <= cell.high_mm:
         ways.append(told("turn"))
     if bars.kind is Kind.GS1128:
         ways.append(said("fewer"))
-    return said("tooWide", f"{cell.width / cell.dots:.1f}", f"{module:.3f}", f"{module * bars.modules:.1f}", "; or ".join(ways))
+    lengths = f"{cell.width / cell.dots:.1f}", f"{module:.3f}", f"{module * bars.modules:.1f}"
+    return said("tooWide", *map(localized, lengths), f";{translated(' or ')}".join(ways))
 
 
 def plan_of(items: Sequence[Item], cell: Cell, fonts: Fonts, look: Look) -> Plan:
@@ -187,7 +188,7 @@ def _symbol(drawing: Drawing, item: Item, plan: Plan, left: int, top: float) -> 
     wanted = look.bars_mm * cell.dots if look.bars_mm else nominal
     high = math.floor(min(wanted, cell.bottom - under - top - 2 * bearer - _GAP_MM * cell.dots))
     if high < _LEAST_BARS_MM * cell.dots:
-        raise ValueError(said("noHeight", f"{max(0, high) / cell.dots:.1f}"))
+        raise ValueError(said("noHeight", localized(f"{max(0, high) / cell.dots:.1f}")))
     first = math.floor(cell.bottom - under - bearer - high)
     drawing.bars = first, first + high
     start = left + bars.widths[0] * module
@@ -202,9 +203,9 @@ def _symbol(drawing: Drawing, item: Item, plan: Plan, left: int, top: float) -> 
 def _warn(drawing: Drawing, bars: Bars, size: float, high: float, nominal: float) -> None:
     """The warnings if the standard asks for other modules or bars than these, in mm."""
     if high < nominal - 0.1:
-        drawing.warnings.append(Warned("low", (f"{high:.1f}", f"{nominal:.1f}"), high / nominal))
+        drawing.warnings.append(Warned("low", (localized(f"{high:.1f}"), localized(f"{nominal:.1f}")), high / nominal))
     if not bars.form.groups and size < _LOGISTIC_MM - 1e-6:
-        drawing.warnings.append(Warned("narrow", (f"{size:.3f}", f"{_LOGISTIC_MM}"), size))
+        drawing.warnings.append(Warned("narrow", (localized(f"{size:.3f}"), localized(f"{_LOGISTIC_MM}")), size))
 
 
 _Digits = Tuple[float, Callable[[int, float], List[Text]]]

@@ -6,7 +6,7 @@ import re
 from dataclasses import dataclass
 from typing import Dict, Tuple
 
-from .._shop import shared, translated
+from .._shop import localized, shared, translated
 
 PAGES: Dict[str, Tuple[float, float]] = {name: (width, height) for name, (width, height) in shared("pages").items()}
 
@@ -91,5 +91,6 @@ def stock_of(name: str) -> Stock:
     if not stock.cells or min(stock.width, stock.height) < _LEAST or max(stock.page) > _MOST:
         raise ValueError(translated("the stock {0!r} has no labels of {1:g} to {2:g} mm", name, _LEAST, _MOST))
     if min(stock.margins) < -0.01:
-        raise ValueError(translated("the labels of {0!r} are larger than their page of {1:g} x {2:g} mm", name, *size))
+        sides = [localized(f"{side:g}") for side in size]
+        raise ValueError(translated("the labels of {0!r} are larger than their page of {1} x {2} mm", name, *sides))
     return stock
