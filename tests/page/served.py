@@ -54,7 +54,8 @@ def scans(page):
     page.until("pictures[0]?.symbols.length === 3", 120)
     page.value("at('camera').click()")
     page.click("#read-labels")
-    page.until("shop.made?.isDone && !at('labels').hidden")
+    page.until("!at('labels').hidden")
+    page.value("document.made")
 
 
 def on_a_telephone(served):
