@@ -142,9 +142,22 @@ def damaged_lists(page, count):
             at = chance.randrange(len(text) + 1)
             text = text[:at] + chance.choice(PIECES) + text[at:] if chance.random() < 0.7 else text[:at] + text[at + chance.randrange(1, 6):]
         lists.append(text)
-    found = json.loads(page.value("""(async (lists) => {
+    found = {"drawn": 0, "faults": 0, "checks": 0, "textless": [], "thrown": []}
+    for first in range(0, count, 100):
+        for key, more in tried(page, lists[first:first + 100], first).items():
+            found[key] += more
+    print(f"{count} damaged lists: {found['drawn']} drawn, {found['faults']} faults, {found['checks']} wrong answers of Check")
+    same("faults without a text", found["textless"][:5], [])
+    same("what damaged lists throw", found["thrown"][:3], [])
+    same("damaged lists that are drawn, and that are not", (found["drawn"] > count, found["faults"] > count / 3), (True, True))
+
+
+def tried(page, lists, first):
+    """What the page draws of damaged lists, the first of which has this number: labels, errors, those without a text, and what it throws."""
+    return json.loads(page.value("""(async (lists, first) => {
         const stocks = Object.keys(STOCKS), dpis = Object.keys(DOTS_IN_MM), found = { drawn: 0, faults: 0, textless: [], thrown: [], checks: 0 };
-        for (const [i, text] of lists.entries()) {
+        for (const [place, text] of lists.entries()) {
+            const i = first + place;
             try {
                 at('stock').value = stocks[i %% stocks.length], at('dpi').value = dpis[i %% dpis.length];
                 setList(text), asked.columns = i %% 3 ? {} : { price: -1 };
@@ -158,11 +171,7 @@ def damaged_lists(page, count):
         }
         at('stock').value = '3474', at('dpi').value = '0';
         return JSON.stringify(found);
-    })(%s)""" % json.dumps(lists)))
-    print(f"{count} damaged lists: {found['drawn']} drawn, {found['faults']} faults, {found['checks']} wrong answers of Check")
-    same("faults without a text", found["textless"][:5], [])
-    same("what damaged lists throw", found["thrown"][:3], [])
-    same("damaged lists that are drawn, and that are not", (found["drawn"] > count, found["faults"] > count / 3), (True, True))
+    })(%s, %d)""" % (json.dumps(lists), first)))
 
 
 def planted(page):
