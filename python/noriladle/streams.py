@@ -94,6 +94,8 @@ class Worker:
         self.given = self.claimed = self.dropped = 0
         self.turns: DefaultDict[str, asyncio.Semaphore] = defaultdict(lambda: asyncio.Semaphore(2))
         """By node, so a silent node stops no other. It reads no more than it can answer before others claim it."""
+        self.largest: Dict[int, Tuple[str, int]] = {}
+        """By shard, its node, and the bytes of its largest stream."""
 
     async def run(self) -> None:
         """Works until it must stop, and then ends what it has begun."""
@@ -112,8 +114,10 @@ class _Shard:
     def __init__(self, worker: Worker, shard: int) -> None:
         self._of, self._shop, self._shard = worker, worker.shop, shard
         self._clock: Optional[int] = None
-        self._is_full = False
-        """Whether its node had no memory left."""
+        self._full = float("inf")
+        """Since when its node has had no memory left."""
+        self._first = ">"
+        """What it reads: rows that nobody has read, or `0`, those that it had read before a fault."""
         self._count = 1
         """How many entries of each lane it reads at once: about 256 rows, by what the last ones had."""
 
@@ -127,10 +131,10 @@ class _Shard:
                     looked = time.monotonic()
                 await (self._read(lanes) if lanes else asyncio.sleep(LOOK))
             except TooMuch:
-                # They are this worker's now, which claims them one by one.
-                self._count = 1
+                # They are this worker's now. An entry that is too long by itself waits until it is claimed.
+                self._first, self._count = ">" if self._count == 1 else "0", 1
             except FAULTS as fault:
-                looked = 0.0
+                self._first, looked = "0", 0.0
                 await self._shop.rest(fault)
 
     async def _look(self) -> List[str]:
@@ -151,15 +155,16 @@ class _Shard:
         replies = iter(await self._shop.ask_all(tag(self._shard), commands))
         claimed: Dict[str, List[str]] = {}
         sizes: Dict[str, int] = {}
+        is_full = False
         for lane, made, kept, taken, *its in zip(lanes, *[replies] * 5):
-            self._is_full |= str(made).startswith("OOM")
+            is_full |= str(made).startswith("OOM")
             sizes.update((it, size) for it, size in zip((lane, _answers_of(lane)), its) if isinstance(size, int))
             fault = next((it for it in (kept, taken) if isinstance(it, Fault)), None)
             if fault:
                 self._shop.tell(f"{lane} is not answered: {fault}")
             else:
                 claimed[lane] = taken[1]
-        await self._empty(sizes)
+        await self._empty(sizes, is_full)
         for lane, name in [(lane, name) for lane, names in claimed.items() for name in names]:
             self._of.claimed += 1
             await self._take(lane, name)
@@ -180,26 +185,34 @@ class _Shard:
                     await self._shop.ask(lane, "XGROUP", "DELCONSUMER", lane, GROUP, of["name"])
                     await self._shop.ask(lane, "XGROUP", "SETID", lane, GROUP, "0")
 
-    async def _empty(self, sizes: Dict[str, int]) -> None:
-        """Empties the streams that have more bytes than they may; if the node has no memory left, the largest. Tills
-        submit again what was in them."""
-        most = max(sizes.values(), default=0) - 1 if self._is_full else QUOTA
-        self._is_full = False
+    async def _empty(self, sizes: Dict[str, int], is_full: bool) -> None:
+        """Empties the streams that have more bytes than they may; if the node has had no memory left for the time between
+        two looks, its largest. Tills submit again what was in them."""
+        node, now = await self._shop.address(tag(self._shard)), time.monotonic()
+        self._of.largest[self._shard] = node, max(sizes.values(), default=0)
+        largest = max(size for at, size in self._of.largest.values() if at == node)
+        self._full = min(self._full, now) if is_full else float("inf")
+        most = largest - 1 if now >= self._full + LOOK else QUOTA
         for stream, size in sizes.items():
             if size > most:
                 self._of.dropped += await self._shop.ask(stream, "XTRIM", stream, "MAXLEN", 0)
                 self._shop.tell(f"{stream} is emptied: it had {size} bytes, and may have {most}")
 
     async def _read(self, lanes: Sequence[str]) -> None:
-        """Reads rows that nobody has read, and answers them. If there are none, waits for some without a turn."""
+        """Reads rows, and answers them. If there are none, waits for some without a turn."""
         turn = self._of.turns[await self._shop.address(lanes[0])]
-        words: List[Word] = ["XREADGROUP", "GROUP", GROUP, self._of.name, "COUNT", self._count]
-        where = ["STREAMS", *lanes, *[">"] * len(lanes)]
+
+        async def read(*wait: Word) -> List[Any]:
+            found = await self._shop.ask(lanes[0], "XREADGROUP", "GROUP", GROUP, self._of.name, "COUNT", self._count, *wait,
+                                         "STREAMS", *lanes, *[self._first] * len(lanes))
+            return [it for it in found or () if it[1]]
+
         async with turn:
-            found = await self._shop.ask(lanes[0], *words, *where)
+            found = await read()
             if found:
                 return await self._give(found)
-        found = await self._shop.ask(lanes[0], *words, "BLOCK", int(LOOK * 1000), *where)
+        self._first = ">"
+        found = await read("BLOCK", int(LOOK * 1000))
         if found:
             async with turn:
                 await self._give(found)
@@ -219,9 +232,7 @@ class _Shard:
 
     async def _give(self, found: Sequence[Tuple[str, Sequence[Tuple[str, List[str]]]]]) -> None:
         """Writes the answers to entries and removes their rows, all or none."""
-        entries = [(lane, name, _fields(words)) for lane, some in found for name, words in some]
-        if not entries:  # What was read had been trimmed.
-            return
+        entries = [(lane, name, _fields(words or ())) for lane, some in found for name, words in some]
         texts = [[text[:CUT] for text in of.get("t", "").split("\n", BATCH)[:BATCH]] for _, _, of in entries]
         said = iter(await self._of.answer([text for some in texts for text in some]))
         # The answers to entries that follow each other in a series share one.

@@ -25,6 +25,11 @@ NO_ROWS = {
 TEXTS = {"]C110A,B^21C": "]C1 (10)A,B(21)C", "9501101530003": "- (01)09501101530003", "]E09501101530004": "refused 3 CheckDigit"}
 
 
+def beside(lane):
+    """Other lanes in the shard of a lane."""
+    return [it for it in map(str, range(200)) if keys.rows(it)[:6] == keys.rows(lane)[:6] and it != lane]
+
+
 @pytest.mark.limit(40)
 def test_what_is_no_row_has_one_answer_too():
     with Cluster() as cluster, Workers(cluster.address, 1) as workers:
@@ -179,8 +184,7 @@ def test_one_lane_without_a_right():
     with Cluster(nodes=1) as cluster:
         port = cluster.ports[0]
         common = ["+@all", "resetchannels", "on", ">open"]
-        twins = [lane for lane in map(str, range(200)) if keys.rows(lane)[:6] == keys.rows("3")[:6]][:3]
-        lane, half, good = twins
+        lane, half, good = twins = beside("3")[:3]
         told = []
 
         async def test():
@@ -390,6 +394,106 @@ def test_full_memory():
         thread.join()
         assert got == wanted
         print(f"rows submitted again {sum(till.repeated for till in tills)}")
+
+
+async def fill(shop, stream, size, count):
+    """Writes what is no answer into a stream."""
+    for _ in range(0, count, 50):
+        await shop.ask_all(stream, [["XADD", stream, "*", "a", "x" * size]] * 50)
+
+
+def test_a_full_node_loses_its_largest_stream_alone():
+    """It is emptied if the node stays full; the answers of other lanes, which their tills may not have read, stay."""
+    small, other, large = map(keys.answers, "356")
+    with Cluster(nodes=1) as cluster, Workers(cluster.address, 0) as workers:
+        async def test():
+            shop = Shop(cluster.address)
+            for stream, size, count in ((small, 100, 200), (other, 1000, 50), (large, 10_000, 1000)):
+                await fill(shop, stream, size, count)
+            for lane in "3456":
+                await shop.ask(ROWS, "XGROUP", "CREATE", keys.rows(lane), "workers", "0", "MKSTREAM")
+            used = re.search(r"used_memory:(\d+)", await shop.ask(ROWS, "INFO", "memory"))
+            await shop.ask(ROWS, "CONFIG", "SET", "maxmemory", int(used[1]) - 5_000_000)
+            workers.start("one")
+            assert await Till(shop, "4").read(EAN13) == READ
+            assert [await shop.ask(it, "XLEN", it) for it in (small, other, large)] == [200, 50, 0]
+            await shop.close()
+
+        asyncio.run(test())
+        assert f"{large} is emptied" in workers.kill("one")
+
+
+def test_answers_that_a_full_node_refuses():
+    """The worker answers what it had read as soon as there is room, and waits for no claim. In a moment no stream is emptied."""
+    other = beside("3")[0]
+    with Cluster(nodes=1) as cluster:
+        port, took = cluster.ports[0], []
+
+        async def test():
+            shop, begun = Shop(cluster.address), []
+
+            async def answer(texts):
+                if len(begun) == len(took):
+                    begun.append(time.monotonic())
+                    ask(port, "CONFIG", "SET", "maxmemory", 1)
+                    asyncio.get_running_loop().call_later(0.2, ask, port, "CONFIG", "SET", "maxmemory", 0)
+                return [READ] * len(texts)
+
+            await fill(shop, keys.answers(other), 10_000, 100)
+            await shop.ask(ROWS, "XGROUP", "CREATE", keys.rows(other), "workers", "0", "MKSTREAM")
+            till, one = Till(shop, "3"), Worker(shop, "one", answer)
+            running = asyncio.ensure_future(one.run())
+            for _ in range(3):
+                assert await till.read(EAN13) == READ
+                took.append(time.monotonic() - begun[-1])
+            assert till.repeated == till.lost == 0
+            assert await shop.ask(ROWS, "XLEN", keys.answers(other)) == 100
+            one.stopping = True
+            await running
+            await shop.close()
+
+        asyncio.run(test())
+        assert 0.2 <= min(took) < 1.4, took
+
+
+def test_rows_beside_long_entries():
+    """Lanes of a shard are read together. If the reply is too long, the worker reads fewer entries at once; the other lane's rows
+    do not wait until they are claimed."""
+    long, other = beside("3")[:2]
+    with Cluster(nodes=1) as cluster:
+        async def test():
+            shop, reads, goes_on, took = Shop(cluster.address), asyncio.Event(), asyncio.Event(), []
+
+            async def answer(texts):
+                reads.set()
+                await goes_on.wait()
+                return [READ] * len(texts)
+
+            one, till = Worker(Shop(cluster.address), "one", answer), Till(shop, other)
+            running = asyncio.ensure_future(one.run())
+            for _ in range(3):
+                goes_on.set()
+                for _ in range(20):
+                    assert await till.read(EAN13) == READ
+                reads.clear(), goes_on.clear()
+                reading = asyncio.ensure_future(till.read(EAN13))
+                await reads.wait()
+                await shop.ask_all(keys.rows(long), [["XADD", keys.rows(long), "*", "t", "1 " * 450_000]] * 20)
+                beside, begin = asyncio.ensure_future(Till(shop, other).read(EAN13)), time.monotonic()
+                await asyncio.sleep(0.2)
+                goes_on.set()
+                assert await beside == READ
+                took.append(time.monotonic() - begin)
+                assert await reading == READ
+                while await shop.ask(ROWS, "XLEN", keys.rows(long)):
+                    await asyncio.sleep(0.1)
+            one.stopping = True
+            await running
+            await shop.close()
+            return took
+
+        took = asyncio.run(test())
+        assert min(took) < 1.4, took
 
 
 def test_little_memory_for_long():
