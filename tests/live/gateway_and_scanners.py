@@ -69,6 +69,8 @@ class Gateway:
         for name in [word[2:] for word in ("--port", *words) if word in ("--port", "--web", "--metrics") and (word != "--port" or port)]:
             line = self.process.stderr.readline()
             found = re.fullmatch("([a-z]+) ([0-9]+)\n", line)
+            if not found:
+                self.process.kill()
             assert found, line + self.process.stderr.read()
             self.ports[found[1]] = int(found[2])
         until = time.monotonic() + 20
