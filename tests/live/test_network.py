@@ -4,6 +4,7 @@ import asyncio
 import os
 import random
 import re
+import signal
 import threading
 import time
 
@@ -146,10 +147,11 @@ def test_a_master_is_cut_off_for_good():
 
 @pytest.mark.limit(120)
 def test_a_network_in_two_halves():
-    """A master and the tills are on the smaller one, and a worker at times: what the master takes meanwhile is lost when the halves meet."""
-    asked, wanted = rows_of(8_000)
-    with Network(*REPLICATED) as network, Spread(network, replicas=True) as cluster, Far(network, ",".join(cluster.addresses), 2):
-        done, halves = threading.Event(), 0
+    """A master and the tills are on the smaller one, and a worker that is at work at times: what the master takes meanwhile, and nobody
+    answers, is lost when the halves meet."""
+    asked, wanted = rows_of(12_000)
+    with Network(*REPLICATED) as network, Spread(network, replicas=True) as cluster, Far(network, ",".join(cluster.addresses), 2) as workers:
+        done, halves, worker = threading.Event(), 0, workers.running["worker0"]
 
         def wait_for(is_so):
             """Until it is so, all rows are answered, or 20 seconds are over."""
@@ -161,11 +163,14 @@ def test_a_network_in_two_halves():
             nonlocal halves
             for master, replica in zip(cluster.ports, cluster.ports[cluster.masters:]):
                 before = cluster.taken(master)
-                wait_for(lambda: cluster.taken(master) > before)
+                wait_for(lambda: cluster.taken(master) > before + 10)  # Answers come.
                 network.cut_off(cluster.machines[master], "worker0", "tills")
+                if halves % 2 == 0:
+                    worker.send_signal(signal.SIGSTOP)
                 halves += 1
                 wait_for(lambda: cluster.role(replica) == "master")
                 network.cut_off()
+                worker.send_signal(signal.SIGCONT)
                 done.wait(6)
 
         cutting = threading.Thread(target=cut)
