@@ -267,7 +267,7 @@ class Answer:
     def text(self) -> str:
         """The line for people: each Application Identifier in parentheses before its value, as
         ``(01)09501101530003``. Different elements may have the same line, since a value may have parentheses."""
-        return "".join(f"({element.ai}){element.value}" for element in self.elements)
+        return "".join([f"({ai}){value}" for ai, value in _pairs(self)])
 
     @property
     def gtin(self) -> Optional[str]:
@@ -359,9 +359,9 @@ def _said(call: Any, *words: Any) -> Union[Answer, Refusal]:
     if fault:
         return Refusal(fault, _remedies()[str(fault)][2], None if place == _NO_PLACE else place)
     answer = object.__new__(Answer)
-    answer.__dict__.update(
-        identifier=identifier[:3].decode("ascii") if identifier[0] else None, symbol=_SYMBOLS[symbol],
-        _told=(text[:length].decode("ascii"), raw[_HEAD.size:_HEAD.size + count * _PLACE.size]))
+    of = answer.__dict__
+    of["identifier"], of["symbol"] = identifier[:3].decode("ascii") if identifier[0] else None, _SYMBOLS[symbol]
+    of["_told"] = text[:length].decode("ascii"), raw[_HEAD.size:_HEAD.size + count * _PLACE.size]
     return answer
 
 
@@ -394,6 +394,13 @@ def _elements_at(text: str, places: bytes) -> Tuple[Element, ...]:
             of["until"] = datetime.date(last_year, last_month, last_day)
         elements.append(element)
     return tuple(elements)
+
+
+def _pairs(answer: Answer) -> List[Tuple[str, str]]:
+    """The Application Identifier and the value of each element, without making the elements."""
+    text, places = answer.__dict__.get("_told", ("", b""))
+    return ([(text[it[0]:it[1]], text[it[1]:it[2]]) for it in _PLACE.iter_unpack(places)] if places else
+            [(element.ai, element.value) for element in answer.elements])
 
 
 def _with_before(refusal: Refusal, text: bytes, terms: int) -> Refusal:

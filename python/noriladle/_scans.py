@@ -14,7 +14,7 @@ import time
 from dataclasses import dataclass
 from typing import Callable, Dict, List, Optional, Union
 
-from . import Answer, Refusal
+from . import Answer, Refusal, _pairs
 from ._journal import Journal, Scan
 from .live import Hub, Lane, Reply
 
@@ -39,7 +39,7 @@ Seen = Callable[[Union[Answer, Refusal, None], float], None]
 def text_of(answer: Union[Answer, Refusal], elements: bool) -> str:
     """The text of an answer, with elements for people, or as `gs1_hub live --elements` writes them."""
     if elements and isinstance(answer, Answer):
-        return f"{answer.identifier or '-'} " + "\t".join(f"{element.ai}={element.value}" for element in answer.elements)
+        return f"{answer.identifier or '-'} " + "\t".join([f"{ai}={value}" for ai, value in _pairs(answer)])
     return str(answer)
 
 
