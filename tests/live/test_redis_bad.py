@@ -250,7 +250,8 @@ def test_answers_that_nobody_reads():
     """Of a till that has gone, Redis keeps some 4,096 entries."""
     with Cluster(nodes=1) as cluster, Workers(cluster.address, 1) as workers:
         asyncio.run(read_lane(cluster.address, "3", [EAN13]))
-        add = [["XADD", ROWS, "*", "s", "e", "n", n, "t", EAN13] for n in range(6000)]
+        # None follows another, so each has an entry of answers.
+        add = [["XADD", ROWS, "*", "s", "e", "n", 2 * n, "t", EAN13] for n in range(6000)]
 
         async def test():
             shop = Shop(cluster.address)
