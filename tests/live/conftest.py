@@ -17,7 +17,8 @@ def limit(request):
         pytest.fail(f"not done after {seconds} seconds")
 
     before = signal.signal(signal.SIGALRM, end)
-    signal.alarm(seconds)
+    # Again and again: asyncio only logs what a call of its loop raises.
+    signal.setitimer(signal.ITIMER_REAL, seconds, 10)
     yield
-    signal.alarm(0)
+    signal.setitimer(signal.ITIMER_REAL, 0)
     signal.signal(signal.SIGALRM, before)
