@@ -1,7 +1,8 @@
 """An earlier version beside this one, as they are while a shop is upgraded at work: workers and tills over Redis, gateways and scanners. Needs
 the history of the repository, from which the earlier one is taken; without it these are skipped."""
+import gzip
 import os
-import shutil
+import platform
 import signal
 import subprocess
 import threading
@@ -22,15 +23,17 @@ REPOSITORY = os.environ.get("REPOSITORY", str(ROOT))
 
 @pytest.fixture(scope="module")
 def old(tmp_path_factory):
-    """The command of the earlier version."""
-    folder = tmp_path_factory.mktemp("old")
-    packed = subprocess.run(["git", "-C", REPOSITORY, "archive", OLD, "python/noriladle", "examples/till"], capture_output=True)
+    """The command of the earlier version, with its own library and program."""
+    folder, parts = tmp_path_factory.mktemp("old"), Path("release", platform.machine())
+    packed = subprocess.run(["git", "-C", REPOSITORY, "archive", OLD, "python/noriladle", "examples/till", parts], capture_output=True)
     if packed.returncode:
         pytest.skip("there is no history of the repository")
     subprocess.run(["tar", "-xf", "-", "-C", folder], input=packed.stdout, check=True)
-    for built in (ROOT / "python/noriladle").glob("*.so"):
-        shutil.copy(built, folder / "python/noriladle")
-    return ["env", f"PYTHONPATH={folder / 'python'}", *NORILADLE]
+    library, program = folder / "python/noriladle/libgs1.so", folder / "gs1_hub"
+    for file in (library, program):
+        file.write_bytes(gzip.decompress((folder / parts / f"{file.name}.gz").read_bytes()))
+    program.chmod(0o755)
+    return ["env", f"PYTHONPATH={folder / 'python'}", f"GS1_HUB={program}", *NORILADLE]
 
 
 @pytest.fixture(scope="module")
