@@ -111,20 +111,22 @@ REPLICATED = ["one", "two", "three", "again1", "again2", "again3", "worker0", "w
 
 
 async def read_on(addresses, asked, most=64):
-    """What a till of each lane gets, and how many rows the tills were told as lost."""
-    shop, lost = Shop(addresses), []
+    """What a till of each lane gets, and how many rows the tills were told as lost, each of which they submit again."""
+    shop = Shop(addresses)
+    tills = {lane: Till(shop, lane, most=most) for lane in LANES}
 
     async def one(lane):
-        got, till = [], Till(shop, lane, most=most)
+        got, till = [], tills[lane]
         async for _, answer in till.read_all(asked[lane]):
             got.append(answer)
             await asyncio.sleep(0.005)
-        lost.append(till.lost)
         return lane, got
 
     got = dict(await asyncio.gather(*map(one, LANES)))
     await shop.close()
-    return got, sum(lost)
+    lost, repeated = (sum(getattr(till, name) for till in tills.values()) for name in ("lost", "repeated"))
+    assert lost <= repeated
+    return got, lost
 
 
 def answers_of(wanted):
