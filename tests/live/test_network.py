@@ -187,11 +187,11 @@ def test_a_network_in_two_halves():
 
 
 @pytest.fixture
-def far(tmp_path):
-    """A gateway on one machine, and clients on another."""
+def far(tmp_path, request):
+    """A gateway on one machine, with an idle time, and clients on another."""
     with Network("shop", "till") as network:
         with network.inside("shop"):
-            gateway = Gateway(tmp_path, "--host", network.addresses["shop"], "--anyone", "--metrics", "0", "--idle", "5")
+            gateway = Gateway(tmp_path, "--host", network.addresses["shop"], "--anyone", "--metrics", "0", "--idle", request.param)
         with gateway:
             yield network, gateway
 
@@ -202,8 +202,9 @@ def connect(far):
         return Client((network.addresses["shop"], gateway.ports["port"]))
 
 
+@pytest.mark.parametrize("far", ["60"], indirect=True)
 def test_a_gateway_far_away(far):
-    """Its answers come in order over a slow and lossy network, and after it was cut."""
+    """Its answers come in order over a slow and lossy network, and after it was cut, however late TCP tries again."""
     network, gateway = far
     asked, wanted = random_lanes(3_000, 1)
     network.worsen(0.02, 0.03)
@@ -221,6 +222,7 @@ def test_a_gateway_far_away(far):
 
 
 @pytest.mark.limit(100)
+@pytest.mark.parametrize("far", ["5"], indirect=True)
 def test_clients_that_are_cut_off(far):
     """A lane is free again after the idle time, and a till, which may be silent, is given up within a minute: no word of its end comes."""
     network, gateway = far
