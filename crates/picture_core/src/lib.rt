@@ -14,6 +14,7 @@ mod level;
 mod look;
 mod order;
 mod own_row;
+mod part;
 mod patch;
 mod picture;
 mod place;

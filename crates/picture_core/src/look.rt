@@ -1,7 +1,7 @@
 //! Looks at the patches of stripes of a picture.
 
 use crate::area::{Area, Size};
-use crate::frame::{Frame, Spot, over};
+use crate::frame::{Frame, ONE, Spot, over};
 use crate::grid::Grid;
 use crate::patch::{across, along, grid_over};
 use crate::reader::Reader;
@@ -12,7 +12,7 @@ use crate::shown::Shown;
 use crate::stripes::Blocks;
 use crate::symbol::SeenSymbol;
 use crate::tally::{Seen, Tally};
-use crate::turning::{Sighted, line_shows, read_bars};
+use crate::turning::{Sighted, Taken, line_shows, read_bars};
 use line_reader::Turn;
 
 /// How a patch is looked at: how many lines a dot apart are taken in the mean, how many such rows at most, whether they go along the
@@ -50,8 +50,14 @@ const FINE: Turn = Turn {
     least: 922,
 };
 
+/// Where the mean of lines turns that comes back by even less.
+const FINER: Turn = Turn {
+    part: 40,
+    least: 300,
+};
+
 /// The looks, each if those before found nothing.
-pub(crate) const LOOKS: [Look; 9] = [
+pub(crate) const LOOKS: [Look; 10] = [
     Look {
         rows: 24,
         sampling: Sampling::Dots,
@@ -116,6 +122,12 @@ pub(crate) const LOOKS: [Look; 9] = [
         cleared: Cleared::Large,
         ..USUAL
     },
+    Look {
+        lines: 3,
+        is_aslant: true,
+        turn: FINER,
+        ..USUAL
+    },
 ];
 
 impl Look {
@@ -128,7 +140,7 @@ impl Look {
     }
 }
 
-/// Notes what a row of a grid says; how many dots it took.
+/// Notes what a row of a grid says; what that took.
 fn read_row(
     reader: &Reader,
     grid: &Grid,
@@ -137,7 +149,7 @@ fn read_row(
     room: &mut RowRoom,
     tally: &mut Tally,
     furthest: &mut Furthest,
-) -> usize {
+) -> Taken {
     let v = grid.v_of(row);
     let (from, line) = grid.lines_of(reader.picture, v, look);
     let sighted = Sighted {
@@ -148,10 +160,25 @@ fn read_row(
     read_bars(reader, &line, look, sighted, room, tally, furthest)
 }
 
+/// How far what was seen reaches across rows, in 1/65536 dot.
+#[derive(Clone, Copy)]
+struct Reach {
+    top: i64,
+    bottom: i64,
+}
+
+/// As far as it is half a row to the next one.
+fn reach_of_rows(seen: &Seen, grid: &Grid) -> Reach {
+    Reach {
+        top: seen.first.v.saturating_sub(grid.step / 2),
+        bottom: seen.last.v.saturating_add(grid.step / 2),
+    }
+}
+
 /// The corners of what rows show, from the first of them to the last.
-fn spots_of(seen: &Seen, grid: &Grid) -> [Spot; 4] {
-    let top = seen.first.v.saturating_sub(grid.step / 2) >> 8;
-    let bottom = seen.last.v.saturating_add(grid.step / 2) >> 8;
+fn spots_of(seen: &Seen, grid: &Grid, reach: Reach) -> [Spot; 4] {
+    let top = reach.top >> 8;
+    let bottom = reach.bottom >> 8;
     [
         grid.frame.spot_at(seen.first.left, top),
         grid.frame.spot_at(seen.first.right, top),
@@ -239,12 +266,78 @@ fn lines_of(
     lines_from(reader, grid, seen, look, room, true)
 }
 
+/// How often the way from a row that shows a symbol to the next one, which does not, is halved.
+const HALVINGS: u8 = 3;
+
+/// Whether the lines of a place across rows show what was seen, from one of their ends.
+fn is_shown_at(
+    reader: &Reader,
+    grid: &Grid,
+    seen: &Seen,
+    look: &Look,
+    room: &mut RowRoom,
+    v: i64,
+) -> bool {
+    let Some(said) = seen.said.as_ref() else {
+        return false;
+    };
+    let (_, line) = grid.lines_of(reader.picture, v, look);
+    line_shows(reader.picture, reader.year, said, &line, room).is_some()
+        || line_shows(
+            reader.picture,
+            reader.year,
+            said,
+            &line.turned_round(),
+            room,
+        )
+        .is_some()
+}
+
+/// Where what was seen ends between a row that shows it and the next one.
+fn end_of(
+    reader: &Reader,
+    grid: &Grid,
+    seen: &Seen,
+    look: &Look,
+    room: &mut RowRoom,
+    shown: i64,
+    next: i64,
+) -> i64 {
+    let mut inside = shown;
+    let mut outside = next;
+    for _ in 0..HALVINGS {
+        let middle = inside.saturating_add(outside) / 2;
+        if is_shown_at(reader, grid, seen, look, room, middle) {
+            inside = middle;
+        } else {
+            outside = middle;
+        }
+    }
+    inside.saturating_add(outside) / 2
+}
+
+/// How far what was seen reaches, to an eighth of the way from row to row, or half of it if that is two dots or less.
+fn reach_of(reader: &Reader, grid: &Grid, seen: &Seen, look: &Look, room: &mut RowRoom) -> Reach {
+    if grid.step <= 2 * ONE {
+        return reach_of_rows(seen, grid);
+    }
+    let first = seen.first.v;
+    let last = seen.last.v;
+    let above = first.saturating_sub(grid.step);
+    let below = last.saturating_add(grid.step);
+    Reach {
+        top: end_of(reader, grid, seen, look, room, first, above),
+        bottom: end_of(reader, grid, seen, look, room, last, below),
+    }
+}
+
 /// The symbol that was seen on these lines, in a box along its bars: as the rows show these, or else as the stripes go.
 fn placed(
     seen: &mut Seen,
     grid: &Grid,
     stripes: Frame,
     lines: SeenLines,
+    reach: Reach,
     size: Size,
 ) -> Option<SeenSymbol> {
     let said = seen.said.take()?;
@@ -252,7 +345,7 @@ fn placed(
         Some(slope) => grid.frame.sheared(slope.saturating_neg()),
         None => stripes,
     };
-    let area = Area::around(frame, &spots_of(seen, grid));
+    let area = Area::around(frame, &spots_of(seen, grid, reach));
     Some(SeenSymbol {
         said,
         rows: seen.rows,
@@ -263,7 +356,13 @@ fn placed(
     })
 }
 
-/// Reads a patch, and adds what it shows to what is found; how many dots were taken.
+/// Whether something was seen that is not near a symbol which is found.
+fn is_open(seen: &Seen, grid: &Grid, shown: &Shown) -> bool {
+    let [upper_left, _, lower_right, _] = spots_of(seen, grid, reach_of_rows(seen, grid));
+    seen.said.is_some() && !shown.is_near(upper_left) && !shown.is_near(lower_right)
+}
+
+/// Reads a patch, and adds what it shows to what is found; what that took. If a symbol is found, another one may still be seen in part.
 pub(crate) fn read_patch(
     reader: &Reader,
     blocks: &Blocks,
@@ -272,7 +371,7 @@ pub(crate) fn read_patch(
     room: &mut RowRoom,
     shown: &mut Shown,
     furthest: &mut Furthest,
-) -> usize {
+) -> Taken {
     let stripes = across(blocks, patch);
     let frame = if look.is_aslant {
         along(blocks, patch, stripes)
@@ -281,26 +380,35 @@ pub(crate) fn read_patch(
     };
     let grid = grid_over(blocks, patch, frame, look.rows);
     let mut tally = Tally::new();
-    let mut taken = 0usize;
+    let mut taken = Taken::default();
     for row in 0..grid.count {
-        taken = taken.saturating_add(read_row(
-            reader, &grid, row, look, room, &mut tally, furthest,
-        ));
+        let row = read_row(reader, &grid, row, look, room, &mut tally, furthest);
+        taken = taken.with(row);
     }
     let size = Size::of(reader.picture);
+    let found = shown.found;
     let sure = tally.sure(grid.step);
     for (seen, is_sure) in tally.all_mut().iter_mut().zip(sure.iter()) {
         if *is_sure {
             let Some(lines) = lines_of(reader, &grid, seen, look, room) else {
                 continue;
             };
-            if let Some(symbol) = placed(seen, &grid, stripes, lines, size) {
+            let reach = reach_of(reader, &grid, seen, look, room);
+            if let Some(symbol) = placed(seen, &grid, stripes, lines, reach, size) {
                 shown.join(symbol, size);
             }
         }
     }
     if tally.is_short() {
         shown.drop_more(1);
+    }
+    if shown.found > found {
+        taken.parts = 0;
+        for seen in tally.all() {
+            if is_open(seen, &grid, shown) {
+                taken.parts = taken.rows;
+            }
+        }
     }
     taken
 }

@@ -15,11 +15,17 @@ use crate::shown::{MOST, Shown};
 use crate::stripes::Blocks;
 use crate::symbol::SeenSymbol;
 use crate::telling::tell;
+use crate::turning::Taken;
 use arrayvec::ArrayVec;
 use element_core::Year;
 
 /// The fewest blocks of a patch.
 const FEWEST_BLOCKS: usize = 6;
+
+/// The first looks leave a patch if none of its rows has as many ends. The fewest bars of a symbol have 34, and some may be missing.
+const FIRST_LOOKS: usize = 2;
+
+const FEWEST_ENDS: usize = 12;
 
 /// How many dots looks take before no more patch is looked at, beside a quarter of those that the picture has.
 const MOST_TAKEN: usize = 2_000_000;
@@ -30,16 +36,26 @@ fn leave_unknown(blocks: &mut Blocks, shown: &Shown) {
         if !blocks.block(number).is_striped() {
             continue;
         }
-        let spot = blocks.centre(number);
-        let mut is_known = false;
-        for symbol in shown.symbols.as_slice() {
-            if let Some(symbol) = symbol {
-                is_known |= symbol.area.is_near(spot);
-            }
-        }
-        if is_known {
+        if shown.is_near(blocks.centre(number)) {
             blocks.clear(number);
         }
+    }
+}
+
+/// Leaves the blocks of a patch.
+fn leave_patch(blocks: &mut Blocks, patch: &[u32]) {
+    for number in patch {
+        blocks.clear(*number as usize);
+    }
+}
+
+/// Notes of a patch whether part of a symbol was seen there, and leaves it if one of the first looks saw too few ends.
+fn note_patch(blocks: &mut Blocks, patch: &[u32], taken: Taken, is_first: bool) {
+    for number in patch {
+        blocks.mark(*number as usize, taken.show_part());
+    }
+    if is_first && taken.ends < FEWEST_ENDS {
+        leave_patch(blocks, patch);
     }
 }
 
@@ -53,9 +69,10 @@ fn read_stripes(
     shown: &mut Shown,
     furthest: &mut Furthest,
 ) {
-    let picture = reader.picture;
     // How many dots may still be taken.
-    let mut left = picture.width() * picture.height() / 4 + MOST_TAKEN;
+    let mut left = reader.picture.width() * reader.picture.height() / 4 + MOST_TAKEN;
+    // The most blocks of a patch that showed a symbol.
+    let mut most = 0;
     for (before, look) in LOOKS.iter().enumerate() {
         // If there is no room for more symbols, a look would count those again that the one before dropped.
         if shown.dropped > 0 {
@@ -63,16 +80,25 @@ fn read_stripes(
         }
         let number = before as u32 + 1;
         leave_unknown(blocks, shown);
+        let is_found = before > 0 && !shown.symbols.is_empty();
         for first in 0..blocks.len() {
             if left == 0 || !blocks.is_left(first, number) {
                 continue;
             }
-            let count = take_patch(blocks, first, number, queue);
-            if count >= FEWEST_BLOCKS && count <= queue.len() {
-                let patch = &queue[..count];
-                let taken = read_patch(reader, &*blocks, patch, look, row, shown, furthest);
-                left -= taken.min(left);
+            let count = take_patch(blocks, first, number, queue).min(queue.len());
+            let patch = &queue[..count];
+            let is_small = before >= FIRST_LOOKS || count < most / 2;
+            if count < FEWEST_BLOCKS || (is_found && is_small && !blocks.shows_part(first)) {
+                leave_patch(blocks, patch);
+                continue;
             }
+            let found = shown.found;
+            let taken = read_patch(reader, &*blocks, patch, look, row, shown, furthest);
+            note_patch(blocks, patch, taken, before < FIRST_LOOKS);
+            if shown.found > found {
+                most = most.max(count);
+            }
+            left -= taken.dots.min(left);
         }
     }
 }

@@ -4,6 +4,7 @@ ghost use Rattle.arrayvec.specs.ArrayVec.{array_vec_len};
 
 use crate::area::Size;
 use crate::count::added;
+use crate::frame::Spot;
 use crate::said::Refused;
 use crate::symbol::SeenSymbol;
 use arrayvec::ArrayVec;
@@ -79,6 +80,18 @@ impl Shown {
         self.left_out = 0;
         self.dropped = 0;
         self.refused = None;
+    }
+
+    /// Whether a place is on one of the symbols or about its quiet zones.
+    pub(crate) fn is_near(&self, spot: Spot) -> bool {
+        for symbol in self.symbols.as_slice() {
+            if let Some(symbol) = symbol {
+                if symbol.area.is_near(spot) {
+                    return true;
+                }
+            }
+        }
+        false
     }
 
     /// Counts symbols for which there was no room.

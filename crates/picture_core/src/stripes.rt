@@ -151,6 +151,9 @@ fn word_of(part: i16) -> u32 {
     u32::from(part.cast_unsigned())
 }
 
+/// So much more stands there if part of a symbol was seen in a block.
+const PART: u32 = 65_536;
+
 fn part_in(word: u32) -> i16 {
     ((word % 65_536) as u16).cast_signed()
 }
@@ -244,6 +247,18 @@ impl<'a> Blocks<'a> {
     /// Whether a block is striped, and this look has not taken it.
     pub(crate) fn is_left(&self, number: usize, look: u32) -> bool {
         number < self.cos.len() && self.taken[number] < look && self.block(number).is_striped()
+    }
+
+    /// Notes of a block whether part of a symbol was seen there.
+    pub(crate) fn mark(&mut self, number: usize, is_part: bool) {
+        if let Some(cos) = self.cos.get_mut(number) {
+            *cos = *cos % PART + if is_part { PART } else { 0 };
+        }
+    }
+
+    /// Whether it was.
+    pub(crate) fn shows_part(&self, number: usize) -> bool {
+        number < self.cos.len() && self.cos[number] >= PART
     }
 
     /// A look takes a block.

@@ -170,6 +170,10 @@ impl Tally {
         self.is_short
     }
 
+    pub(crate) fn all(&self) -> &[Seen] {
+        self.all.as_slice()
+    }
+
     pub(crate) fn all_mut(&mut self) -> &mut [Seen] {
         self.all.as_mut_slice()
     }

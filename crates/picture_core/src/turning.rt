@@ -7,6 +7,7 @@ ghost use Rattle.picture_core.specs.Samples.{step_of};
 ghost use Rattle.picture_core.specs.Sharp.{AreSeen};
 
 use crate::look::{LOOKS, Look};
+use crate::part::is_part;
 use crate::picture::Picture;
 use crate::place::half_way;
 use crate::reader::Reader;
@@ -29,6 +30,32 @@ pub(crate) struct Sighted {
     pub(crate) u: i64,
     pub(crate) v: i64,
     pub(crate) step: i64,
+}
+
+/// What looking at rows took: how many dots and rows; how many ends the row with the most has; and how many may show part of a symbol.
+#[derive(Clone, Copy, Default)]
+pub(crate) struct Taken {
+    pub(crate) dots: usize,
+    pub(crate) rows: usize,
+    pub(crate) ends: usize,
+    pub(crate) parts: usize,
+}
+
+impl Taken {
+    /// With a row more.
+    pub(crate) fn with(self, row: Taken) -> Taken {
+        Taken {
+            dots: self.dots.saturating_add(row.dots),
+            rows: self.rows.saturating_add(row.rows),
+            ends: self.ends.max(row.ends),
+            parts: self.parts.saturating_add(row.parts),
+        }
+    }
+
+    /// Whether so many of the rows may show part of a symbol that one may stand there: an eighth of them.
+    pub(crate) fn show_part(self) -> bool {
+        self.parts.saturating_mul(8) >= self.rows
+    }
 }
 
 /// Notes what a window of ends shows; whether it is read.
@@ -159,7 +186,7 @@ fn read_side(
     read_ends(reader, &all, row, tally, furthest);
 }
 
-/// Notes what a line shows, whose samples are put here; how many dots were taken.
+/// Notes what a line shows, whose samples are put here; what that took.
 fn read_samples(
     reader: &Reader,
     line: &SeenLine,
@@ -172,7 +199,7 @@ fn read_samples(
     ends: &mut [u32],
     tally: &mut Tally,
     furthest: &mut Furthest,
-) -> usize {
+) -> Taken {
     let (range, samples, _) = put_all(reader.picture, line, samples);
     let step = line.sampling.step();
     let half = parts.len() / 2;
@@ -181,6 +208,12 @@ fn read_samples(
     put_extremes(samples, look.turn, low, high, &mut turns);
     let mut all = Ends::none(ends);
     put_ends(samples, &turns, step, look.by_slope, &mut all);
+    let taken = Taken {
+        dots: (line.dots as usize).saturating_mul(usize::from(line.lines)),
+        ends: all.all().len(),
+        rows: 1,
+        parts: if is_part(all.all()) { 1 } else { 0 },
+    };
     read_side(
         reader, range, samples, step, &turns, &all, false, row, tally, furthest,
     );
@@ -188,10 +221,10 @@ fn read_samples(
     read_side(
         reader, range, samples, step, &turns, &all, true, row, tally, furthest,
     );
-    (line.dots as usize).saturating_mul(usize::from(line.lines))
+    taken
 }
 
-/// Notes what a line shows; how many dots were taken.
+/// Notes what a line shows; what that took.
 pub(crate) fn read_bars(
     reader: &Reader,
     line: &SeenLine,
@@ -200,7 +233,7 @@ pub(crate) fn read_bars(
     room: &mut RowRoom,
     tally: &mut Tally,
     furthest: &mut Furthest,
-) -> usize {
+) -> Taken {
     read_samples(
         reader,
         line,
