@@ -1,8 +1,8 @@
 // GS1 barcodes for Node and browsers: turns the answers of the proved library into values of JavaScript.
+import { adviceOf, wordsOf } from "./advice.js";
 import { aiAt, associations, doubts, elementOf, needsSeparator } from "./elements.js";
 import { MODULE, VERSION } from "./module.js";
-import { Gs1 as Calls, greyOf, gtinOf, symbolsShown } from "./page.js";
-import { REMEDIES } from "./remedies.js";
+import { Gs1 as Calls, askFor, greyOf, gtinOf, symbolsShown } from "./page.js";
 
 export { VERSION, associations, doubts };
 
@@ -18,6 +18,9 @@ const ELEMENT_STRINGS = ["]C1", "]e0", "]d2", "]Q3", "]J1"];
 // The errors of a picture that cannot be read at all. Any other says why none of its rows was read.
 const OF_THE_CALL = [17, 18, 42, 43];
 
+// What the call of each error was asked, and the advice, once somebody asks for it.
+const ASKED = new WeakMap(), ADVICE = new WeakMap();
+
 export class Refusal extends Error {
   constructor(number, fault, place) {
     super(`refused ${number} ${fault}${place === undefined ? "" : ` ${place}`}`);
@@ -29,8 +32,39 @@ export class Refusal extends Error {
     this.ai = undefined;
   }
 
-  get remedy() { return REMEDIES[this.number]; }
+  get remedy() { return wordsOf(adviceFor(this)); }
+
+  get fixes() { return adviceFor(this).fixes ?? []; }
 }
+
+function adviceFor(error) {
+  if (!ADVICE.has(error)) ADVICE.set(error, adviceOf(error, ASKED.get(error)));
+  return ADVICE.get(error);
+}
+
+// Asks, and notes in an error what was asked.
+function noting(asked, ask) {
+  try {
+    return ask();
+  } catch (error) {
+    if (error instanceof Refusal && !ASKED.has(error)) ASKED.set(error, asked);
+    throw error;
+  }
+}
+
+function isRead(ask) {
+  try {
+    ask();
+    return true;
+  } catch (error) {
+    if (error instanceof Refusal) return false;
+    throw error;
+  }
+}
+
+// What a call of this name was asked about a text. `ask` asks it about another.
+const askedOf = (call, text, ask, others) =>
+  ({ call, text: typeof text === "string" ? text : new TextDecoder().decode(text), reads: (it) => isRead(() => ask(it)), ...others });
 
 const refusalOf = ({ fault, place }) => new Refusal(fault, Calls.faults[fault], place);
 
@@ -77,21 +111,38 @@ const madeOf = (found) => found.map((it) => Object.freeze(elementOf(it)));
 class Gs1 {
   #calls;
 
-  constructor(calls) { this.#calls = calls; }
+  constructor(calls) {
+    this.#calls = calls;
+    // For advice about numbers, which any module answers alike.
+    askFor({ gtin: (text) => calls.read("gs1_c_read_gtin", ...calls.put(text), ANY_YEAR), digit: (text) => String(this.checkDigit(text)) });
+  }
 
-  readRow(widths, year, options) {
+  readRow(widths, year, options) { return noting({ call: "row" }, () => this.#row(widths, year, options)); }
+
+  find(widths, year, options) { return noting({ call: "row" }, () => this.#find(widths, year, options)); }
+
+  readScan(text, year, options) {
+    return noting(askedOf("readScan", text, (it) => this.#scan(it, year, options)), () => this.#scan(text, year, options));
+  }
+
+  parseElements(text, year, options) {
+    const ask = (it) => this.#parse(bytesOf(it), termsOf(year, options));
+    return noting(askedOf("parseElements", text, ask, { isString: true }), () => ask(text));
+  }
+
+  #row(widths, year, options) {
     return answerOf(this.#askRow((...words) => this.#read("gs1_c_read_row", ...words), widths, termsOf(year, options)));
   }
 
-  find(widths, year, options) {
+  #find(widths, year, options) {
     const row = Array.from(widths);
     return this.#askRow((...words) => this.#ask("gs1_c_find", ...words), row, termsOf(year, options)).split("\n").slice(0, -1).map((line) => {
       const [first, count] = line.split(" ", 2).map(Number);
-      return { first, count, answer: this.readRow(row.slice(first, first + count), year, options) };
+      return { first, count, answer: this.#row(row.slice(first, first + count), year, options) };
     });
   }
 
-  readScan(text, year, options) {
+  #scan(text, year, options) {
     const terms = termsOf(year, options), bytes = bytesOf(text);
     try {
       return answerOf(this.#read("gs1_c_read_message", ...this.#put(bytes), terms));
@@ -102,23 +153,33 @@ class Gs1 {
     }
   }
 
-  parseElements(text, year, options) { return this.#parse(bytesOf(text), termsOf(year, options)); }
-
   compose(elements, year = new Date().getFullYear()) {
     const pairs = Array.from(elements, (it) => (Array.isArray(it) ? { ai: it[0], value: it[1] } : it));
     const text = pairs.map(({ ai, value }, i) => {
-      this.#checkPair(ai, value, year, i);
+      noting({ call: "compose", ai, text: value }, () => this.#checkPair(ai, value, year, i));
       return `${i && needsSeparator(pairs[i - 1].ai) ? "\x1d" : ""}${ai}${value}`;
     }).join("");
-    this.parseElements(text, year);
+    noting({ call: "compose", ai: "", text: "" }, () => this.#parse(bytesOf(text), termsOf(year)));
     return text;
   }
 
-  readGtin(text) { return this.#read("gs1_c_read_gtin", ...this.#put(bytesOf(text)), ANY_YEAR).text.slice("01".length); }
+  readGtin(text) {
+    const ask = (it) => this.#read("gs1_c_read_gtin", ...this.#put(bytesOf(it)), ANY_YEAR).text.slice("01".length);
+    return noting(askedOf("readGtin", text, ask), () => ask(text));
+  }
 
-  checkDigit(text) { return Number(this.#ask("gs1_c_digit", ...this.#put(bytesOf(text))).slice("digit ".length)); }
+  checkDigit(text) {
+    const ask = (it) => Number(this.#ask("gs1_c_digit", ...this.#put(bytesOf(it))).slice("digit ".length));
+    return noting(askedOf("checkDigit", text, ask), () => ask(text));
+  }
 
-  labelSymbol(kind, text, year, options) {
+  labelSymbol(kind, text, year, options) { return noting(this.#askedOfLabel(kind, text, year, options), () => this.#symbol(kind, text, year, options)); }
+
+  #askedOfLabel(kind, text, year, options) {
+    return askedOf("label", text, (it) => this.#symbol(kind, it, year, options), { kind, kinds: Calls.kinds, isString: kind === "gs1128" });
+  }
+
+  #symbol(kind, text, year, options) {
     const line = this.#ask("gs1_c_symbol", Calls.kinds.indexOf(kind), ...this.#put(bytesOf(text)), termsOf(year, options));
     const [, under, left, right, widths] = line.split(" ");
     return { text: under, quietLeft: Number(left), quietRight: Number(right), widths: Array.from(widths, Number) };
@@ -126,13 +187,17 @@ class Gs1 {
 
   drawLabel(kind, text, { year, module = 1, width, height, ais }) {
     const dots = [module, width, height].map(u16);
-    const image = this.#calls.ask(this.#calls.calls.gs1_c_label, Calls.kinds.indexOf(kind), ...this.#put(bytesOf(text)), termsOf(year, { ais }), ...dots);
-    // An image begins with P4.
-    if (image[0] !== 0x50) throw this.#refusalIn(this.#calls.line(image));
-    return image.slice();
+    return noting(this.#askedOfLabel(kind, text, year, { ais }), () => {
+      const image = this.#calls.ask(this.#calls.calls.gs1_c_label, Calls.kinds.indexOf(kind), ...this.#put(bytesOf(text)), termsOf(year, { ais }), ...dots);
+      // An image begins with P4.
+      if (image[0] !== 0x50) throw this.#refusalIn(this.#calls.line(image));
+      return image.slice();
+    });
   }
 
-  readPicture(pixels, year, { level = 0, ais } = {}) {
+  readPicture(pixels, year, options) { return noting({ call: "picture" }, () => this.#picture(pixels, year, options)); }
+
+  #picture(pixels, year, { level = 0, ais } = {}) {
     if (!Number.isInteger(level) || level < 0 || level > 255) throw new RangeError("the level is not 1 to 255");
     const terms = termsOf(year, { ais }), { symbols, reason } = symbolsShown(this.#calls.picture(greyOf(pixels), level, terms)), refusal = this.#refusalIn(reason);
     if (refusal && OF_THE_CALL.includes(refusal.number)) throw refusal;
@@ -201,7 +266,7 @@ class Gs1 {
     const more = () => new Refusal(...(value.includes("\x1d") ? [7, "ValueCharacter"] : [6, "ValueLength"]), at);
     let read;
     try {
-      read = this.parseElements(ai + value, year);
+      read = this.#parse(bytesOf(ai + value), termsOf(year));
     } catch (error) {
       if (!(error instanceof Refusal) || error.fault === "Words") throw error;
       // A value with anything after it is too long, and so is one that needs a separator in a text.

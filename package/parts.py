@@ -105,20 +105,25 @@ def npm_files() -> Files:
     :raises NoFile: there is no module of these sources.
     """
     npm, page = ROOT / "npm", ROOT / "page"
-    own = {name: (npm / name).read_bytes() for name in ("index.js", "elements.js", "index.d.ts", "README.md")}
-    scripts = "".join((page / f"{name}.js").read_text("utf-8").replace('"use strict";\n', "", 1) for name in ("gs1", "picture", "ais", "values"))
+    own = {name: (npm / name).read_bytes() for name in ("index.js", "advice.js", "elements.js", "index.d.ts", "README.md")}
+    scripts = "".join((page / f"{name}.js").read_text("utf-8").replace('"use strict";\n', "", 1) for name in ("gs1", "picture", "ais", "values", "mending", "typed"))
     module, version = _constant("MODULE", file_of("wasm32/gs1_c.wasm")), f'"{VERSION} (sources {sum_of_sources()[:12]})"'
     return {**own, **licences(), "remedies.js": remedies("js"),
             "package.json": (npm / "package.json").read_text("utf-8").replace("@VERSION@", VERSION).encode(),
             "module.js": f"// The module of crates/gs1_c, with addresses of 32 bits. Made by npm/build.\nexport {module}export const VERSION = {version};\n".encode(),
-            "page.js": f"// The scripts of the page that ask the module, make the grey values of pictures and say what values mean. Made by npm/build.\n{scripts}"
+            "page.js": f"// The scripts of the page that ask the module, make the grey values of pictures, and say what values mean and what to do about errors. Made by npm/build.\n{scripts}"
                        f"{_NPM_EXPORT}".encode()}
 
 
 _NPM_EXPORT = """\
 export {
-  AIS, COUNTRY_LETTERS, Gs1, KNOWN_COUNTRIES, countriesOf, countryCodes, currencyOf, greyOf, gtinOf, isOf, numberOf, placeOf, symbolsShown, unitOf,
+  AIS, COUNTRY_LETTERS, Gs1, KNOWN_COUNTRIES, countriesOf, countryCodes, currencyOf, greyOf, gtinOf, isOf, numberOf, paddedGtin, placeOf, remedyAlone,
+  remedyOfDigits, remedyOfIdentified, remedyOfString, symbolsShown, unitOf, usualRemedy, writtenOtherwise,
 };
+
+// The calls of the module that these scripts ask.
+let core;
+export const askFor = (calls) => { core = calls; };
 """
 
 

@@ -139,7 +139,6 @@ function symbolTold(text, named) {
   const digits = digitsOf(text), mark = /^\p{Nd}{8}$/u.test(digits) && { upce: /^[1-9]/.test(digits) ? "" : "]E0", ean8: "]E4" }[short];
   const asked = mark ? mark + digits : text, answer = readText(asked);
   if (answer.refused) return faultOfText(text, remedyOf(text, answer.refused), answer.refused);
-  if (answer.fault) return faultOfText(text, answer.fault);
   const says = answer.elements.map(({ ai, value }) => `(${ai})${value}`).join("");
   const isLink = ["]Q1", "]d1"].includes(answer.identifier) || /^http/i.test(text);
   if (isLink) return faultOfText(text, { key: "link", values: [says] });

@@ -23,7 +23,6 @@ function answerOf(text, line) {
   const answer = { line, typed: text, kind: kindOf(text) }, said = readText(text);
   // On a German keyboard, a scanner that is set to an American one types ] as +.
   if (/^\+[A-Za-z]\d/.test(text)) return { ...answer, kind: "scanner", fault: { key: "layout" } };
-  if (said.fault) return { ...answer, fault: said.fault };
   if (said.refused) return { ...answer, fault: { ...remedyOf(text, said.refused), refused: said.refused } };
   return { ...answer, elements: told(said.elements), gtin: gtinOf(said.elements), isPlain: said.elements.length === 1 && said.elements[0].ai === "01" };
 }

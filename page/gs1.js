@@ -15,6 +15,12 @@ class Gs1 {
     "NoMemory", "InputSize"
   ];
 
+  // What is said of the identifiers of other symbols: keys of shop/. tables/remedies writes them.
+  static identifiers = {
+    "]E1": "addOn", "]E2": "addOn", "]E3": "addOn", "]I0": "itfDigit", "]C0": "houseCode", "]e1": "composite", "]e2": "composite", "]e3":
+    "composite"
+  };
+
   // Beside a year: accept every Application Identifier.
   static everyAi = 0x8000;
 

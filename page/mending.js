@@ -47,19 +47,22 @@ const isNumber = (digits) => /^[0-9]+$/.test(digits) && GTIN_LENGTHS.includes(di
   && digits.slice(-1) === core.digit(digits.slice(0, -1));
 
 /**
- * What to write for a text that is no number: what it clearly stands for, or each number that it may be; or nothing.
+ * What to write for a text that is no number: what it clearly stands for, or each number that it may be; or nothing. What is
+ * written of a number is the text that is read as it, or nothing if none is.
  * @param {string} text
+ * @param {(number: string) => string} written
  * @returns {Advice | null}
  */
-function numberAdvice(text) {
-  const number = meantNumber(text), bare = bareText(text), digits = joinedText(bare), letter = bare.match(/[Oo]/)?.[0];
+function numberAdvice(text, written) {
+  const number = meantNumber(text), plain = number && written(number);
+  const bare = bareText(text), digits = joinedText(bare), letter = bare.match(/[Oo]/)?.[0];
   const clear = (/** @type {string} */ key, /** @type {string[]} */ ...values) =>
-    ({ key, values, fixes: [number], isClear: true });
-  if (number && letter && digits.replace(/[Oo]/g, "0") === number) return clear("letterO", letter, number);
-  if (number && (!/^[0-9]+$/.test(digits) || digits === number)) {
-    return clear(/^[0-9]{9}[Xx]$/.test(digits) ? "isbn" : "plainly", number);
+    ({ key, values, fixes: [plain], isClear: true });
+  if (plain && letter && digits.replace(/[Oo]/g, "0") === number) return clear("letterO", letter, plain);
+  if (plain && (!/^[0-9]+$/.test(digits) || digits === number)) {
+    return clear(/^[0-9]{9}[Xx]$/.test(digits) ? "isbn" : "plainly", plain);
   }
-  const readings = readingsOf(digits);
+  const readings = readingsOf(digits).map(({ name, number: it }) => ({ name, number: written(it) })).filter((it) => it.number);
   return readings.length ? { ...readingsTold(readings), fixes: readings.map((it) => it.number), isClear: !!number }
     : null;
 }

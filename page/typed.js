@@ -1,5 +1,5 @@
-// Reads texts as people type and paste them: numbers, printed element strings, and what scanners send. As
-// python/noriladle/_texts.py.
+// Reads texts as people type and paste them: numbers, printed element strings, and what scanners send; and says what to do
+// about those that are refused. As python/noriladle/_texts.py and _advice.py. The npm package has this too.
 "use strict";
 
 const BRACKETED = { "(": /\((\d{2,4})\)([^()]+)/g, "[": /\[(\d{2,4})\]([^\][]+)/g };
@@ -29,25 +29,39 @@ function looksRight(cell) {
   return /^\p{Nd}{7,14}$/u.test(digits) || ROUNDED.test(digits) || LINK.test(text);
 }
 
-// What a text says: the identifier that a scanner sent, and the elements; or the module's error; or the fault of a text
-// that cannot be read at all.
+// What a text says: the identifier that a scanner sent, and the elements; or the line of its error.
 function readText(typed) {
   const text = stripped(typed);
   if (text[0] in BRACKETED) {
-    const pairs = bracketedPairs(text), number = pairs ? "" : meantNumber(text);
-    return pairs ? scanned(`^${pairs.map(({ ai, value }) => ai + value).join("^")}`)
-      : { fault: { key: text[0] === "(" ? "parentheses" : "brackets", fixes: number ? [number] : [], isClear: !!number } };
+    const pairs = bracketedPairs(text);
+    return pairs ? printedRead(pairs) : { refused: "refused 5 UnknownAi" };
   }
   if (text[0] === "]" || LINK.test(text)) return scanned(text);
   if (isElements(text)) return scanned(/^[\^\x1d]/.test(text) ? text : `^${text}`);
   const digits = digitsOf(text);
-  if (/^0+$/.test(digits)) return { fault: { key: "zerosAlone" } };
+  if (/^0+$/.test(digits)) return { refused: "refused 40 Kind" };
   // Eight digits that begin with 0 are a GTIN-8 or a UPC-E: the module refuses to guess.
   if (/^0[0-9]{7}$/.test(digits)) return scanned(digits);
   return saidBy(core.gtin(digits));
 }
 
 const scanned = (text) => saidBy(core.scan(text));
+
+// What AIs with their values say: these elements, and no others that the same characters may be.
+function printedRead(pairs) {
+  let end = 0;
+  const starts = pairs.map(({ ai, value }) => {
+    end += ai.length + value.length + 1;
+    return end - ai.length - value.length - 1;
+  });
+  const said = scanned(`^${pairs.map(({ ai, value }) => ai + value).join("^")}`), place = said.refused && refusalOf(said.refused).place;
+  if (said.refused) {
+    return place === undefined || starts.includes(place) ? said : { refused: `refused 6 ValueLength ${Math.max(...starts.filter((at) => at < place))}` };
+  }
+  const wrong = pairs.findIndex(({ ai, value }, i) => said.elements[i].ai !== ai || said.elements[i].value !== value);
+  if (wrong < 0) return said;
+  return { refused: said.elements[wrong].ai === pairs[wrong].ai ? `refused 6 ValueLength ${starts[wrong]}` : `refused 5 UnknownAi ${starts[wrong]}` };
+}
 
 const saidBy = ({ refused, identifier, elements }) => refused ? { refused } : { identifier, elements };
 
@@ -62,58 +76,142 @@ function bracketedPairs(text) {
 const elementString = (text) => text[0] in BRACKETED
   ? bracketedPairs(text).map(({ ai, value }) => ai + value).join("\x1d") : text.replaceAll("^", "\x1d");
 
-// The refusals of a number: its length, a sign that is no digit, its check digit.
-const OF_NUMBERS = [1, 2, 3];
+// ---- what to do about a text that is refused
 
-// What to do about a refused text: advice from its digits, or else the usual one; and the numbers that may be right.
-function remedyOf(typed, refused) {
-  const text = stripped(typed), refusal = refusalOf(refused);
-  if (text[0] === "]" || LINK.test(text)) return remedyOfScan(text, refusal);
-  return isElements(text) ? remedyOfElements(text, refusal) : remedyOfDigits(text, refusal);
+// What was asked of a call: the text, whether the call reads another one, whether it takes numbers with an identifier too, and
+// whether its separator is byte 29 alone.
+/** @typedef {{ text: string, reads: (text: string) => boolean, call: string, isString?: boolean }} Asked */
+
+// What is said of another number of digits behind an identifier; the identifiers of Digital Links; what is said of an element that
+// no separator ends.
+const LENGTH_KEYS = { "]E0": "lengthEan", "]E4": "lengthEan8", "]I1": "lengthItf" }, LINKS = ["]Q1", "]d1"];
+const ALONE_KEYS = { 5: "noAi", 6: "valueLength", 7: "valueCharacter", 10: "valueLength" };
+
+// What to do about a refused text, and each text that may be put in its place: this call reads it.
+const remedyOf = (typed, refused) => remedyOfTyped(refusalOf(refused), { text: stripped(typed), reads: (text) => !readText(text).refused, call: "readText" });
+
+function remedyOfTyped(refusal, asked) {
+  if (refusal.number === 42) return { key: 42 };
+  if (asked.text[0] === "]" || LINK.test(asked.text)) return remedyOfIdentified(refusal, asked);
+  if (asked.text[0] in BRACKETED) return remedyOfPrinted(refusal, asked);
+  return isElements(asked.text) ? remedyOfString(refusal, asked, asked.text, "^") : remedyOfDigits(refusal, asked);
 }
 
-const usualRemedy = (text, { number, place }) => ({ key: number, values: [Array.from(text)[place] ?? ""] });
-
-function remedyOfScan(text, refusal) {
-  if (refusal.number === 40) {
-    return text[0] === "]" ? { key: "otherSymbol", values: [text.slice(0, 3)] } : { key: "noLink" };
+// Of a text with an identifier or a separator in front, or a Digital Link.
+function remedyOfIdentified(refusal, asked) {
+  const { text } = asked, { number } = refusal, identifier = text[0] === "]" ? text.slice(0, 3) : "";
+  if (number === 40) {
+    const isLink = !identifier || LINKS.includes(identifier);
+    return isLink ? { key: "noLink" } : { key: Gs1.identifiers[identifier] ?? "otherSymbol", values: [identifier] };
   }
-  const digits = text.slice(3), isNumber = refusal.number === 3 && /^\d{9,}$/.test(digits);
-  if (!isNumber) return usualRemedy(digits, refusal);
-  const remedy = remedyOfDigits(digits, refusal);
-  return { ...remedy, fixes: remedy.fixes?.map((fix) => text.slice(0, 3) + fix) };
+  if (!identifier && LINK.test(text) || LINKS.includes(identifier)) return remedyOfLink(refusal);
+  const digits = text.slice(identifier.length);
+  if (number === 1 && identifier in LENGTH_KEYS) return { key: LENGTH_KEYS[identifier] };
+  if (number === 3) return numberAdvice(digits, writtenFor(asked, identifier)) ?? { key: 3 };
+  return remedyOfString(refusal, asked, digits, "^");
 }
 
-// The remedy, with the element that it is about.
-function remedyOfElements(text, refusal) {
-  const { place } = refusal, remedy = usualRemedy(text, refusal);
-  if (place === undefined) return remedy;
-  if (!(text[0] in BRACKETED)) {
-    const plain = /^[\^\x1d]/.test(text) ? text.slice(1) : text;
-    return { key: "at", values: [Array.from(plain).slice(place, place + 20).join("").replaceAll("\x1d", "^"), remedy] };
+// Of an element of a link, whose place is its index.
+function remedyOfLink({ number, place }) {
+  if (place === undefined) return { key: number === 11 ? "fewerElements" : number };
+  return { key: "inLink", values: [place + 1, remedyAlone(number, number === 9 ? "17" : "")] };
+}
+
+// Of an element string. Places do not count a separator at its beginning.
+function remedyOfString({ number, place }, asked, string, separator) {
+  const text = /^[\^\x1d]/.test(string) ? string.slice(1) : string;
+  if (place === undefined || number < 5) {
+    return number === 11 && asked.call !== "readText" ? { key: "fewerElements" } : usualRemedy(number, text, place, separator);
   }
+  const rest = behindPlace(text, place);
+  return { key: "at", values: [Array.from(rest).slice(0, 20).join("").replaceAll("\x1d", "^"), usualRemedy(number, rest, 0, separator)] };
+}
+
+// Of an element string as it is printed, with the element that it is about.
+function remedyOfPrinted({ number, place }, asked) {
+  const { text } = asked, pairs = bracketedPairs(text), close = text[0] === "(" ? ")" : "]";
+  if (!pairs) {
+    const meant = meantNumber(text), ways = [meant && writtenFor(asked)(meant), inBrackets(text)];
+    const fixes = ways.filter((it) => it && asked.reads(it)).slice(0, 1);
+    return { key: text[0] === "(" ? "parentheses" : "brackets", fixes, isClear: !!meant && fixes.length > 0 };
+  }
+  const shown = pairs.map(({ ai, value }) => text[0] + ai + close + value);
   let at = 0;
-  for (const { ai, value } of bracketedPairs(text)) {
-    const shown = text[0] + ai + (text[0] === "(" ? ")" : "]") + value;
-    if (at === place) return { key: "at", values: [shown, padded(ai, value) ?? remedy] };
+  for (const [i, { ai, value }] of pairs.entries()) {
+    if (at === place) {
+      const right = paddedGtin(ai, value), said = text[0] + ai + close + right, whole = shown.map((it, j) => j === i ? said : it).join("");
+      const fixes = right && asked.reads(whole) ? [whole] : [];
+      return { key: "at", values: [shown[i], right ? { key: "padded", values: [said] } : remedyAlone(number, ai)], fixes };
+    }
     at += ai.length + value.length + 1;
   }
-  return remedy;
+  return usualRemedy(number, text, undefined, "^");
 }
 
-// What to do about a GTIN without the zeros that AI 01 and 02 need.
-function padded(ai, value) {
-  const gtin = ai === "01" || ai === "02" ? gtinOf(core.gtin(value).elements) : value;
-  return gtin && gtin !== value ? { key: "padded", values: [ai, gtin] } : null;
+// An element string as it is printed, with brackets around each AI in parentheses.
+const inBrackets = (text) => text.replace(/\(([0-9]{2,4})\)/g, (it, ai) => AIS.has(ai) ? `[${ai}]` : it);
+
+// A GTIN with the zeros that its AI needs, if it lacks them.
+function paddedGtin(ai, value) {
+  const gtin = ["01", "02", "03"].includes(ai) ? gtinOf(core.gtin(value).elements) : "";
+  return gtin && gtin !== value ? gtin : "";
 }
 
-function remedyOfDigits(text, refusal) {
-  const digits = digitsOf(text), decimals = digits.match(/^(\p{Nd}{8,14})[.,]0+$/u);
-  if (refusal.name === "Kind" && digits.length === 8) return { key: "eight", values: [digits] };
-  if (decimals) return { key: "decimals", values: [decimals[1]], fixes: [decimals[1]], isClear: isNumber(decimals[1]) };
-  const advice = OF_NUMBERS.includes(refusal.number) ? numberAdvice(text) : null;
+// Of a number.
+function remedyOfDigits(refusal, asked) {
+  const { number, place } = refusal, { text } = asked, digits = digitsOf(text), written = writtenFor(asked);
+  if (/^0+$/.test(digits)) return { key: number === 40 ? "zerosAlone" : number };
+  const eight = [digits, meantNumber(text)].find((it) => /^0[0-9]{7}$/.test(it));
+  if (eight && ["readText", "readScan"].includes(asked.call)) {
+    const both = [`]E4${eight}`, `]E0${eight}`].filter(asked.reads);
+    if (both.length) return { key: both.length === 2 ? "eight" : "plainly", values: both, fixes: both };
+  }
+  const whole = digits.match(/^(\p{Nd}{8,14})[.,]0+$/u)?.[1], plain = whole && written(whole);
+  if (plain) return { key: "decimals", values: [plain], fixes: [plain], isClear: true };
+  const advice = numberAdvice(text, written) ?? writtenOtherwise(asked);
   if (advice) return advice;
   if (ROUNDED.test(digits)) return { key: "rounded" };
-  if (/^[0-9]{15,}$/.test(digits)) return { key: "manyDigits", values: [digits], fixes: [`^${digits}`] };
-  return usualRemedy(digits, refusal);
+  const string = `^${digits}`;
+  if (/^[0-9]{15,}$/.test(digits) && asked.reads(string)) return { key: "manyDigits", values: [string], fixes: [string] };
+  return number === 40 ? { key: 1 } : usualRemedy(number, asked.call === "readGtin" ? text : digits, place, "^");
+}
+
+// What is said of the number of an error, with the sign or the separator that it is about.
+function usualRemedy(number, text, place, separator) {
+  if (number === 2) {
+    const [sign] = behindPlace(text, place ?? 0);
+    return sign ? { key: 2, values: [sign] } : { key: "noDigit" };
+  }
+  if (number === 9) return remedyAlone(number, [2, 3, 4].map((count) => text.slice(0, count)).find((ai) => AIS.has(ai)) ?? "17");
+  return [5, 7, 10].includes(number) ? { key: number, values: [separator] } : { key: number };
+}
+
+// What is said of an element that stands by itself. Days of AIs of two digits may be 00.
+const remedyAlone = (number, ai) => ({ key: number === 9 && ai.length !== 2 ? "dayAndTime" : ALONE_KEYS[number] ?? number });
+
+// A text from a place on, which counts bytes.
+const behindPlace = (text, place) => new TextDecoder().decode(new TextEncoder().encode(text).subarray(place));
+
+// How the call takes a number: as it is, or with the identifier of an EAN-8 if it may be a UPC-E too.
+const writtenFor = (asked, identifier = "") => (number) =>
+  [identifier + number, ...(!identifier && ["readText", "readScan"].includes(asked.call) ? [`]E4${number}`] : [])].find(asked.reads) ?? "";
+
+// What to write for a text that is clear, but written with other signs than this call takes.
+function writtenOtherwise(asked) {
+  const way = waysOf(asked).find((it) => it !== asked.text && asked.reads(it));
+  if (way === undefined) return null;
+  const key = asked.isString && /[^^]\^+[^^]/.test(asked.text) && way.includes("\x1d") ? "byte29" : "plainly";
+  return { key, values: [way.replaceAll("\x1d", "\\x1d")], fixes: [way] };
+}
+
+// Texts that a text may stand for, if it has the marks of an element string, of a scan or of a number.
+function waysOf(asked) {
+  const text = stripped(asked.text), behind = text[0] === "]" ? text.slice(3) : text, number = meantNumber(text);
+  if (!asked.isString && asked.call !== "readScan") return [text, behind, ...(number ? [number] : [])];
+  const ways = asked.isString ? [text, behind] : [text];
+  if (!isElements(behind)) return number && !asked.isString ? [...ways, number] : ways;
+  const bracketed = behind[0] === "(" ? inBrackets(behind) : behind;
+  if (bracketed[0] in BRACKETED && !bracketedPairs(bracketed)) return ways;
+  const string = elementString(bracketed).replace(/^\x1d+|\x1d+$/g, "");
+  return [...ways, asked.isString ? string : `^${string}`.replaceAll("\x1d", "^")];
 }

@@ -27,14 +27,15 @@ import re
 import struct
 from dataclasses import dataclass, field
 from decimal import Decimal
-from functools import lru_cache
+from functools import lru_cache, wraps
 from pathlib import Path
-from typing import TYPE_CHECKING, Any, Callable, Dict, Iterable, Iterator, List, Literal, NamedTuple, Optional, Sequence, Tuple, TypeVar, Union, get_args
+from typing import TYPE_CHECKING, Any, Callable, Dict, Iterable, Iterator, List, Literal, NamedTuple, Optional, Sequence, Tuple, TypeVar, Union, cast, get_args
 
 from . import _values
 from ._values import Association, Doubt, Place
 
 if TYPE_CHECKING:
+    from ._mending import Advice as _Advice
     from .picture import Picture
 
 __all__ = [
@@ -104,9 +105,18 @@ def _sources() -> str:
 class Refusal(ValueError):
     """An error: its number and its name say what is wrong, as docs/FAULTS.md lists them.
 
-    ``place`` is an offset or an index, from 0, if the error has one. ``cause`` and ``remedy`` are what that page says
-    about the number. For an element string, ``before`` has the elements before the place, and ``ai`` the Application
-    Identifier there, if there is one:
+    ``place`` is an offset or an index, from 0, if the error has one. ``cause`` and ``remedy`` say what is wrong with what
+    this call was asked, and what to do; ``fixes`` has each text that may be meant, and that the same call reads:
+
+        >>> try:
+        ...     read_gtin("950110153000")
+        ... except Refusal as refusal:
+        ...     print(refusal.remedy)
+        a digit is wrong or missing; compare the number with the box: it may be 9501101530003, if its check digit is missing; \
+950110153001, if the last digit is wrong
+
+    For an element string, ``before`` has the elements before the place, and ``ai`` the Application Identifier there, if
+    there is one:
 
         >>> try:
         ...     parse_elements("10AB\\x1d17261331", year=2026)
@@ -117,6 +127,8 @@ class Refusal(ValueError):
 
     before: Tuple[Element, ...] = ()
     ai: Optional[str] = None
+    _asked: Tuple[Any, ...] = ("",)
+    _advised: Optional["_Advice"] = None
 
     def __init__(self, number: int, name: str, place: Optional[int] = None) -> None:
         super().__init__(number, name, place)
@@ -126,11 +138,28 @@ class Refusal(ValueError):
 
     @property
     def cause(self) -> str:
-        return _remedies()[str(self.number)][0]
+        """What is wrong, in words."""
+        advice, told = self._advice(), _remedies()
+        key = getattr(advice.values[1] if advice.key in ("at", "inLink") else advice, "key")
+        cause: str = told["causes"].get(key) or told["faults"].get(key, told["faults"][str(self.number)])[1]
+        return cause
 
     @property
     def remedy(self) -> str:
-        return _remedies()[str(self.number)][1]
+        """What to do about it, in words."""
+        return str(self._advice())
+
+    @property
+    def fixes(self) -> Tuple[str, ...]:
+        """Each text that may be meant. A person should compare it with the label, since it may be that of another article."""
+        return self._advice().fixes
+
+    def _advice(self) -> "_Advice":
+        from ._advice import Asked, advice_of  # It needs this module.
+
+        if self._advised is None:
+            self._advised = advice_of(self, Asked(*self._asked))
+        return self._advised
 
     def __str__(self) -> str:
         place = "" if self.place is None else f" {self.place}"
@@ -138,11 +167,11 @@ class Refusal(ValueError):
 
 
 @lru_cache(maxsize=None)
-def _remedies() -> Dict[str, Tuple[str, str, str]]:
-    """The cause, the remedy and the name of each number, from the file that tables/remedies makes."""
+def _remedies() -> Dict[str, Dict[str, Any]]:
+    """The name and the cause of each number, the cause of each advice, and that of each identifier, from the file that tables/remedies makes."""
     import json  # Not at every start: it takes a tenth of it.
 
-    told: Dict[str, Tuple[str, str, str]] = json.loads(Path(__file__).with_name("remedies.json").read_text("utf-8"))
+    told: Dict[str, Dict[str, Any]] = json.loads(Path(__file__).with_name("remedies.json").read_text("utf-8"))
     return told
 
 
@@ -357,7 +386,7 @@ def _said(call: Any, *words: Any) -> Union[Answer, Refusal]:
     call(*words, raw)
     fault, place, symbol, count, length, _, identifier, text = _HEAD.unpack_from(raw)
     if fault:
-        return Refusal(fault, _remedies()[str(fault)][2], None if place == _NO_PLACE else place)
+        return Refusal(fault, _remedies()["faults"][str(fault)][0], None if place == _NO_PLACE else place)
     answer = object.__new__(Answer)
     of = answer.__dict__
     of["identifier"], of["symbol"] = identifier[:3].decode("ascii") if identifier[0] else None, _SYMBOLS[symbol]
@@ -450,6 +479,27 @@ def _terms(year: int, ais: Ais) -> int:
 
 
 _Said = TypeVar("_Said")
+_Call = TypeVar("_Call", bound=Callable[..., Any])
+
+
+def _noted(refusal: Refusal, call: str, text: Union[str, bytes] = "", *others: Any) -> Refusal:
+    """The error, which knows what the call was asked."""
+    refusal._advised = None
+    refusal._asked = (call, text if isinstance(text, str) else bytes(text).decode("utf-8", "replace"), *others)
+    return refusal
+
+
+def _about(call: str) -> Callable[[_Call], _Call]:
+    """Notes in the errors of a call what it is about: a row, or a picture."""
+    def of(asking: _Call) -> _Call:
+        @wraps(asking)
+        def asked(*words: Any, **named: Any) -> Any:
+            try:
+                return asking(*words, **named)
+            except Refusal as refusal:
+                raise _noted(refusal, call)
+        return cast(_Call, asked)
+    return of
 
 
 def _of_widths(ask: Callable[..., _Said], call: Any, widths: Sequence[int], terms: int) -> _Said:
@@ -489,6 +539,7 @@ def _widths(dots: Union[bytes, bytearray, memoryview], width: int) -> List[int]:
     return [light, *others] if len(others) % 2 == 0 else [light, *others, 0]
 
 
+@_about("row")
 def read_row(widths: Sequence[int], year: int, *, ais: Ais = "all") -> Answer:
     """What a scanned row says. ``widths`` are those of its light and dark bars in pixels, starting and ending with light.
 
@@ -500,6 +551,7 @@ def read_row(widths: Sequence[int], year: int, *, ais: Ais = "all") -> Answer:
     return _of_widths(_read, _library.gs1_read_row, widths, _terms(year, ais))
 
 
+@_about("row")
 def find(widths: Sequence[int], year: int, *, ais: Ais = "all") -> List[Found]:
     """Every symbol of a scanned row, from left to right, whatever stands beside or between them.
 
@@ -513,6 +565,7 @@ def find(widths: Sequence[int], year: int, *, ais: Ais = "all") -> List[Found]:
     return [Found(first, count, read_row(widths[first:first + count], year, ais=ais)) for first, count in places]
 
 
+@_about("picture")
 def read_picture(picture: Picture, year: int, *, level: Optional[int] = None, ais: Ais = "all") -> List[Symbol]:
     """Every symbol of a picture, in the order of reading: line by line, and from left to right.
 
@@ -538,6 +591,7 @@ def read_picture(picture: Picture, year: int, *, level: Optional[int] = None, ai
     return pictures.read(picture, year, level, ais).symbols
 
 
+@_about("row")
 def read_dots(dots: Union[bytes, bytearray, memoryview], width: int, year: int, *, ais: Ais = "all") -> Answer:
     """What a row of ``width`` dots says, packed eight in a byte as in a PBM image.
 
@@ -551,6 +605,7 @@ def read_dots(dots: Union[bytes, bytearray, memoryview], width: int, year: int, 
     return _of_dots(_read, _library.gs1_read_dots, dots, width, _terms(year, ais))
 
 
+@_about("row")
 def find_dots(dots: Union[bytes, bytearray, memoryview], width: int, year: int, *, ais: Ais = "all") -> List[Found]:
     """Every symbol of a row of ``width`` dots, packed as for :func:`read_dots`: what :func:`find` finds in the widths of
     its light and dark runs.
@@ -590,6 +645,7 @@ def read_scan(text: Union[str, bytes], year: int, *, ais: Ais = "all") -> Answer
     try:
         return _read(_library.gs1_read_message, said, len(said), terms)
     except Refusal as refusal:
+        _noted(refusal, "read_scan", text, year, ais)
         if said[:3] not in _ELEMENT_STRINGS:
             raise
         # Places do not count a separator at the beginning.
@@ -602,7 +658,10 @@ def read_gtin(text: Union[str, bytes]) -> str:
     :raises Refusal: it is no GTIN: 1 ``Length``, 2 ``NotDigit`` or 3 ``CheckDigit``.
     """
     digits = _bytes(text)
-    element: str = _read(_library.gs1_read_gtin, digits, len(digits), _ANY_YEAR).__dict__["_told"][0]
+    try:
+        element: str = _read(_library.gs1_read_gtin, digits, len(digits), _ANY_YEAR).__dict__["_told"][0]
+    except Refusal as refusal:
+        raise _noted(refusal, "read_gtin", text)
     return element[len("01"):]
 
 
@@ -612,7 +671,10 @@ def check_digit(text: Union[str, bytes]) -> int:
     :raises Refusal: 1 ``Length`` or 2 ``NotDigit``.
     """
     digits = _bytes(text)
-    return int(_line(_ask(_library.gs1_digit, digits, len(digits))).partition(" ")[2])
+    try:
+        return int(_line(_ask(_library.gs1_digit, digits, len(digits))).partition(" ")[2])
+    except Refusal as refusal:
+        raise _noted(refusal, "check_digit", text)
 
 
 def read_elements(text: Union[str, bytes], year: int, *, ais: Ais = "all") -> str:
@@ -624,7 +686,7 @@ def read_elements(text: Union[str, bytes], year: int, *, ais: Ais = "all") -> st
     try:
         return _line(_ask(_library.gs1_text, string, len(string), terms))[len("hri "):]
     except Refusal as refusal:
-        raise _with_before(refusal, string, terms)
+        raise _with_before(_noted(refusal, "parse_elements", text, year, ais), string, terms)
 
 
 def parse_elements(text: Union[str, bytes], year: int, *, ais: Ais = "all") -> Tuple[Element, ...]:
@@ -632,7 +694,10 @@ def parse_elements(text: Union[str, bytes], year: int, *, ais: Ais = "all") -> T
 
     :raises Refusal: as :func:`read_elements`.
     """
-    return _parse(_bytes(text), _terms(year, ais)).elements
+    try:
+        return _parse(_bytes(text), _terms(year, ais)).elements
+    except Refusal as refusal:
+        raise _noted(refusal, "parse_elements", text, year, ais)
 
 
 def _parse(text: bytes, terms: int) -> Answer:
@@ -659,9 +724,15 @@ def compose(elements: Iterable[Union[Element, Tuple[str, str]]], year: Optional[
     reference = datetime.date.today().year if year is None else year
     text = ""
     for at, (ai, value) in enumerate(pairs):
-        _check_pair(ai, value, reference, at)
+        try:
+            _check_pair(ai, value, reference, at)
+        except Refusal as refusal:
+            raise _noted(refusal, "compose", value, reference, "all", ai)
         text += ("\x1d" if at > 0 and _values.needs_separator(pairs[at - 1][0]) else "") + ai + value
-    parse_elements(text, reference)
+    try:
+        parse_elements(text, reference)
+    except Refusal as refusal:
+        raise _noted(refusal, "compose")
     return text
 
 
@@ -727,9 +798,16 @@ def label_symbol(kind: Union[Kind, str], text: Union[str, bytes], year: int, *, 
         and 26 ``LabelKind`` if the text has no such symbol.
     """
     said = _bytes(text)
-    answer = _ask(_library.gs1_symbol, _kind(kind).value, said, len(said), _terms(year, ais), room=_SYMBOL)
-    _, under, left, right, widths = _line(answer).split(" ")
+    try:
+        answer = _ask(_library.gs1_symbol, _kind(kind).value, said, len(said), _terms(year, ais), room=_SYMBOL)
+        _, under, left, right, widths = _line(answer).split(" ")
+    except Refusal as refusal:
+        raise _noted(refusal, "label", text, year, ais, _name_of(kind))
     return LabelSymbol(under, int(left), int(right), tuple(map(int, widths)))
+
+
+def _name_of(kind: Union[Kind, str]) -> str:
+    return kind.name.lower() if isinstance(kind, Kind) else kind
 
 
 def _kind(kind: Union[Kind, str]) -> Kind:
@@ -754,7 +832,10 @@ def draw_label(
     """
     said = _bytes(text)
     words = [_u16(number) for number in (module, width, height)]
-    image = _ask(_library.gs1_label, _kind(kind).value, said, len(said), _terms(year, ais), *words)
-    if not image.startswith(b"P4"):
-        _line(image)
+    try:
+        image = _ask(_library.gs1_label, _kind(kind).value, said, len(said), _terms(year, ais), *words)
+        if not image.startswith(b"P4"):
+            _line(image)
+    except Refusal as refusal:
+        raise _noted(refusal, "label", text, year, ais, _name_of(kind))
     return image

@@ -13,7 +13,7 @@ from ._lists import LIMIT, SPREADSHEET, WHOLE_LINES, Fault, Faults, Record, Shee
 from ._prices import PriceHeading, price_of, shelf_prices
 from ._remarks import FLAGS, remark_on
 from ._shop import said, sentence_of_lines, told
-from ._texts import Unreadable, looks_right, read_text
+from ._texts import looks_right, read_text
 
 _ONCE = ("gtin", "gs1", "copies", "kind")
 """Meanings that no list may have twice, since nobody can say which column is meant."""
@@ -313,5 +313,5 @@ class _Look:
 def _is_right(cell: str, year: int) -> bool:
     try:
         return bool(read_text(cell, year).elements)
-    except (Refusal, Unreadable):
+    except Refusal:
         return False

@@ -11,7 +11,7 @@ from . import Refusal
 from ._columns import Table
 from ._lists import SPREADSHEET, WHOLE_LINES, Record
 from ._mending import is_number, meant
-from ._texts import Unreadable, digits_of, read_text
+from ._texts import digits_of, read_text
 
 
 class Change(NamedTuple):
@@ -41,7 +41,7 @@ def _meant(cell: str, year: int) -> str:
     """The number that a cell clearly stands for, unless it stands there as it is."""
     try:
         read_text(cell, year)
-    except (Refusal, Unreadable):
+    except Refusal:
         number = meant(cell)
     else:
         number = digits_of(cell)

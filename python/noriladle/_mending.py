@@ -3,7 +3,7 @@ from __future__ import annotations
 
 import re
 import unicodedata
-from typing import List, Tuple
+from typing import Callable, List, NamedTuple, Optional, Sequence, Tuple
 
 from . import check_digit
 from ._shop import said
@@ -35,24 +35,44 @@ def is_number(digits: str) -> bool:
             and int(digits[-1]) == check_digit(digits[:-1]))
 
 
-def advice(text: str) -> str:
+class Advice(NamedTuple):
+    """What to do about a text that is refused: a sentence of shop/, what stands in it, and each text that may be put in place of this one."""
+
+    key: str
+    values: Tuple[object, ...] = ()
+    fixes: Tuple[str, ...] = ()
+
+    def __str__(self) -> str:
+        return said(self.key, *self.values)
+
+
+Written = Callable[[str], str]
+"""The text that a call reads as a number; empty if it reads none as it."""
+
+
+def advice(text: str, written: Written) -> Optional[Advice]:
     """What to write for a text that is no number: what it clearly stands for, or each number that it may be."""
     number, digits = meant(text), _JOINTS.sub("", _bare(text))
-    letter = re.search("[Oo]", digits)
-    if number and letter and re.sub("[Oo]", "0", digits) == number:
-        return said("letterO", letter[0], number)
-    readings = _readings(digits)
-    if number and (not digits.isdecimal() or digits == number):
-        return said("isbn", number) if re.fullmatch("[0-9]{9}[Xx]", digits) else said("plainly", number)
+    letter, plain = re.search("[Oo]", digits), written(number) if number else ""
+    if plain and letter and re.sub("[Oo]", "0", digits) == number:
+        return Advice("letterO", (letter[0], plain), (plain,))
+    if plain and (not digits.isdecimal() or digits == number):
+        return Advice("isbn" if re.fullmatch("[0-9]{9}[Xx]", digits) else "plainly", (plain,), (plain,))
+    return _told([(name, told) for name, it in _readings(digits) for told in [written(it)] if told])
+
+
+def _told(readings: Sequence[Tuple[str, str]]) -> Optional[Advice]:
+    """What a person is told of the texts that may be meant."""
+    fixes = tuple(text for _, text in readings)
     if not readings:
-        return ""
+        return None
     if len(readings) == 1:
         (name, one), = readings
-        return said({"lastDigit": "checkDigit", "lostZeros": "zeros", "ofIsbn": "isbn"}.get(name, "noCheckDigit"), one)
-    shown = [said(name, one) for name, one in readings]
+        return Advice({"lastDigit": "checkDigit", "lostZeros": "zeros", "ofIsbn": "isbn"}.get(name, "noCheckDigit"), (one,), fixes)
+    shown = [Advice(name, (one,)) for name, one in readings]
     if readings[0][0] == "lostZeros":
-        return said("also", said("zeros", readings[0][1]), "; ".join(shown[1:]))
-    return said("readings", "; ".join(shown))
+        return Advice("also", (Advice("zeros", (readings[0][1],)), "; ".join(map(str, shown[1:]))), fixes)
+    return Advice("readings", ("; ".join(map(str, shown)),), fixes)
 
 
 def _readings(digits: str) -> List[Tuple[str, str]]:

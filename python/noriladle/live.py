@@ -31,7 +31,7 @@ from dataclasses import dataclass
 from types import TracebackType
 from typing import AsyncIterator, Deque, Iterable, List, Optional, Sequence, Tuple, Type, Union, cast
 
-from . import Ais, Answer, Refusal, _bytes, _said_in, _terms
+from . import Ais, Answer, Refusal, _bytes, _noted, _said_in, _terms
 
 __all__ = ["Hub", "HubEnded", "Lane", "Reply", "Widths"]
 
@@ -311,6 +311,8 @@ class _Process(asyncio.SubprocessProtocol):
         if lane not in (b"-", b"%d" % asked) or number not in (b"-", b"%d" % self._numbers[asked]):
             raise ValueError("of another row")
         answer = _said_in(text, self._terms)
+        if isinstance(answer, Refusal) and number != b"-":
+            answer = _noted(answer, "row")
         # Nothing fails from here on, so no row leaves the list without its reply.
         self._sent.popleft()
         if not reply.done():

@@ -7,7 +7,8 @@ import noriladle
 from noriladle import Refusal
 from noriladle._columns import table_of
 from noriladle._lists import LIMIT, Faults
-from noriladle._texts import Unreadable, digits_of, element_string, looks_right, read_text, remedy_of
+from noriladle._advice import remedy_of
+from noriladle._texts import digits_of, element_string, looks_right, read_text
 
 OATS, RYE, GUM, COLA = "4012345010008", "4012345010374", "96385074", "012345000065"
 
@@ -38,6 +39,8 @@ def test_reads_a_text(text, identifier, said):
 
 @pytest.mark.parametrize("text, refused, remedy", [
     ("4012345010375", (3, None), "a digit is wrong; if it is the last one, 4012345010374 is right"),
+    ("4674009", (1, None), "a GTIN has 8, 12, 13 or 14 digits; a spreadsheet may have removed zeros: ]E404674009 is right; it may also be 46740090"),
+    ("EAN: 04674009", (2, 0), "write ]E404674009"),
     ("12345000065", (1, None), "a GTIN has 8, 12, 13 or 14 digits; a spreadsheet may have removed zeros: 012345000065 is right"),
     ("4,01235E+12", (1, None), "the spreadsheet has rounded it"),
     ("4.01235e+12", (1, None), "the spreadsheet has rounded it"),
@@ -49,23 +52,47 @@ def test_reads_a_text(text, identifier, said):
     ("01234565", (40, None), "eight digits that begin with 0 may be a GTIN-8 or a UPC-E: write ]E401234565 or ]E001234565"),
     ("(01)09501101530003(17)261331", (9, 17), "at (17)261331: write YYMMDD"),
     ("(01)9501101530003", (6, 0), "at (01)9501101530003: a GTIN has 14 digits here: (01)09501101530003"),
-    ("[10]AB[98765]1", None, "brackets stand around Application Identifiers alone"),
-    ("(10)A(B)C", None, "if a value has some, write [01]09501101530003[10]A(B)"),
+    ("(01)09501101530003(9999)x", (5, 17), "at (9999)x: there is no such Application Identifier"),
+    ("(10)A B#C", (7, 0), "at (10)AB#C: the value has a character that is not allowed: take it out"),
+    ("(01)0950110153000310AB", (6, 0), "at (01)0950110153000310AB: the value has another length"),
+    ("(20)123", (6, 0), "at (20)123: the value has another length than its Application Identifier asks for"),
+    ("[10]AB[98765]1", (5, None), "brackets stand around Application Identifiers alone"),
+    ("(21)A(B)C", (5, None), "parentheses stand around Application Identifiers alone"),
+    ("0000000000000", (40, None), "a number of zeros alone belongs to no article"),
     ("10AB^17261331", (9, 5), "at 17261331: write YYMMDD"),
     ("^10AB^17261331", (9, 5), "at 17261331: write YYMMDD"),
-    ("]E3abc", (40, None), "]E3 marks a barcode without a GS1 number"),
-    ("]E04012345010375", (3, None), "a digit is wrong; if it is the last one, 4012345010374 is right"),
+    ("^7003261332", (6, 0), "at 7003261332: the value is too short"),
+    ("^70032613311200", (9, 0), "at 70032613311200: there is no such day or time: a day is YYMMDD"),
+    ("]E3abc", (40, None), "]E3 marks an EAN or UPC with an add-on: switch supplementals off"),
+    ("]I009501101530003", (40, None), "]I0 marks an ITF whose check digit the scanner has ignored"),
+    ("]A0abc", (40, None), "]A0 marks a barcode without a GS1 number"),
+    ("]Q1https://example.com/x", (40, None), "this is not a GS1 Digital Link"),
+    ("]E040123450103", (1, None), "behind ]E0 there are 12 or 13 digits"),
+    ("]E04012345010375", (3, None), "a digit is wrong; if it is the last one, ]E04012345010374 is right"),
+    ("https://id.gs1.org/01/09501101530003?10=A+B", (7, 1), "element 2 of the link: the value has a character that is not allowed"),
     ("https://example.com/x", (40, None), "this is not a GS1 Digital Link"),
 ])
 def test_refuses_a_text_and_says_what_to_do(text, refused, remedy):
-    with pytest.raises(ValueError) as raised:
+    with pytest.raises(Refusal) as raised:
         read_text(text, 2026)
     fault = raised.value
-    if refused is None:
-        assert isinstance(fault, Unreadable) and remedy in str(fault)
-    else:
-        assert isinstance(fault, Refusal) and (fault.number, fault.place) == refused
-        assert remedy_of(text, fault).startswith(remedy)
+    assert (fault.number, fault.place) == refused
+    advice = remedy_of(text, fault, 2026)
+    assert str(advice).startswith(remedy)
+    for fix in advice.fixes:
+        read_text(fix, 2026)
+
+
+def test_puts_texts_in_place_of_those_that_are_refused():
+    def fixes(text):
+        with pytest.raises(Refusal) as raised:
+            read_text(text, 2026)
+        return remedy_of(text, raised.value, 2026).fixes
+    assert fixes("(01)9501101530003(17)261231") == ("(01)09501101530003(17)261231",)
+    assert fixes("(21)A(B)C") == ("[21]A(B)C",)
+    assert fixes("010950110153000317261231") == ("^010950110153000317261231",)
+    assert fixes("01234565") == ("]E401234565", "]E001234565")
+    assert fixes("123456789012345") == ()
 
 
 def test_never_guesses_an_element_string_of_digits():
@@ -77,9 +104,46 @@ def test_never_guesses_an_element_string_of_digits():
 def test_each_refusal_has_a_cause_and_a_remedy():
     for number in range(1, 45):
         refusal = Refusal(number, "Name")
-        assert refusal.cause and refusal.remedy and not set("`|") & set(refusal.cause + refusal.remedy)
-    assert Refusal(4, "Empty").remedy == "type the text"
+        assert refusal.cause and refusal.remedy and not set("`|{}") & set(refusal.cause + refusal.remedy)
+    assert Refusal(4, "Empty").remedy == "there is no text: type it"
     assert noriladle.Refusal(3, "CheckDigit").cause.startswith("a digit was misread or mistyped")
+
+
+def refused(call, *words):
+    with pytest.raises(Refusal) as raised:
+        call(*words)
+    return raised.value
+
+
+def test_a_remedy_is_of_the_call_that_was_asked():
+    import pickle
+    for call, words, remedy, fixes in [
+        (noriladle.read_scan, ("(01)09501101530003(17)261231", 2026), "write ^0109501101530003^17261231", ["^0109501101530003^17261231"]),
+        (noriladle.read_scan, ("abc", 2026), "a scanner's text is digits alone, or a GS1 Digital Link, or begins with ] or ^", []),
+        (noriladle.read_scan, (b"]E09501101530004", 2026), "a digit is wrong; if it is the last one, ]E09501101530003 is right", ["]E09501101530003"]),
+        (noriladle.read_scan, ("]C1" + "10A" * 80, 2026), "there are more than 192 characters or 48 elements: put fewer elements into one symbol", []),
+        (noriladle.parse_elements, ("10AB^17261231", 2026), "the separator is byte 29 here: write 10AB\\x1d17261231", ["10AB17261231"]),
+        (noriladle.read_elements, ("(21)A(B)C", 2026), "write 21A(B)C", ["21A(B)C"]),
+        (noriladle.read_gtin, ("4674009",), "a GTIN has 8, 12, 13 or 14 digits; a spreadsheet may have removed zeros: 04674009 is right; it may also be "
+         "46740090, if its check digit is missing", ["04674009", "46740090"]),
+        (noriladle.check_digit, ("1" * 18,), "a check digit is of 1 to 17 digits", []),
+        (noriladle.check_digit, ("12 3",), "write 123", ["123"]),
+        (noriladle.compose, ([("10", "A"), ("01", "9501101530003")],), "at (01)9501101530003: a GTIN has 14 digits here: (01)09501101530003", []),
+        (noriladle.compose, ([("", "")],), "there is no such Application Identifier", []),
+        (noriladle.label_symbol, ("qr", "1", 2026), "there is no kind 'qr': it is one of ean13, upca, ean8, upce, gs1128, itf14", []),
+        (noriladle.draw_label, ("ean13", "4012345010375", 2026), "a digit is wrong; if it is the last one, 4012345010374 is right", ["4012345010374"]),
+        (noriladle.read_row, ([10, 70_000, 10], 2026), "the row has more than 65,535 dots: scan at a lower resolution", []),
+        (noriladle.read_dots, (b"", 9, 2026), "give the widths of light and dark in turn, an odd count of them and 0 only at the ends, or as many "
+         "dots as you say", []),
+        (noriladle.read_row, ([10], 2026), "scan again", []),
+        (noriladle.read_scan, ("]C110A", 1900), "the year must be from 1951 to 2149", []),
+    ]:
+        fault = refused(call, *words)
+        assert (fault.remedy, list(fault.fixes)) == (remedy, fixes)
+        assert pickle.loads(pickle.dumps(fault)).remedy == remedy and fault.cause
+    symbol = noriladle.label_symbol("gs1128", "10AB", 2026)
+    assert refused(noriladle.read_row, [10, *symbol.widths[:-2], 10], 2026).remedy == "show one whole symbol"
+    assert refused(noriladle.read_scan, "]E3123", 2026).cause == "EAN or UPC with an add-on"
 
 
 def test_words_of_texts():
@@ -216,11 +280,9 @@ def test_remedies_are_those_of_the_page():
     import pathlib
     page = pathlib.Path(__file__).parents[2] / "docs" / "FAULTS.md"
     if page.exists():
-        told = json.loads(pathlib.Path(noriladle.__file__).with_name("remedies.json").read_text("utf-8"))
-        rows = [line.split(" | ") for line in page.read_text("utf-8").splitlines() if line.startswith("| ") and line[2].isdigit()]
-        for head, _, remedy in rows[:10]:
-            number = head.split()[1]
-            assert told[number][1] == remedy.rstrip(" |").replace("`", ""), number
+        shown = [line.split(" | ")[2].rstrip(" |") for line in page.read_text("utf-8").splitlines() if line.startswith("| ") and line.count("|") == 4]
+        advice = [Refusal(1, "Length"), refused(noriladle.read_scan, "abc", 2026), refused(noriladle.read_scan, "]E09", 2026), refused(noriladle.read_row, [10], 2026)]
+        assert [it.remedy for it in advice[1:]] == [it.remedy for it in advice[1:] if it.remedy in shown]
 
 
 def test_each_number_has_a_text_in_each_language():

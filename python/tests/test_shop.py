@@ -46,7 +46,7 @@ def test_check(folder, capsys):
         "1\t978-3-16-148410-0\t(01)09783161484100",
         "3\t96385075\trefused 3 CheckDigit\ta digit is wrong; if it is the last one, 96385074 is right",
         "4\t(10)A\t(10)A", "5\t]C110A\t]C1 (10)A", "6\t^10A^17261231\t(10)A(17)261231",
-        "7\t(10)A)\trefused\tparentheses stand around Application Identifiers alone, as in (01)09501101530003(10)AB; if a value has some, "
+        "7\t(10)A)\trefused 5 UnknownAi\tparentheses stand around Application Identifiers alone, as in (01)09501101530003(10)AB; if a value has some, "
         "write [01]09501101530003[10]A(B)"], ["a: 2 of 6 lines refused"])
     assert told(["check", "a", "--refused"], capsys)[1] == told(["check", "a"], capsys)[1][1:2] + told(["check", "a"], capsys)[1][5:]
 
@@ -58,7 +58,7 @@ def test_check_of_a_list(folder, capsys):
                                    "a.csv: 2 of 3 lines refused"]
     assert out[:2] == ["2\t4012345010008\t(01)04012345010008",
                        "3\t4012345010375\trefused 3 CheckDigit\ta digit is wrong; if it is the last one, 4012345010374 is right\tBrot"]
-    assert out[2].startswith("4\t\trefused\tthis line is not CSV")
+    assert out[2].startswith("4\t\trefused 39 Csv\tthis line is not CSV")
     assert [json.loads(line).get("article") for line in told(["check", "a.csv", "--json"], capsys)[1]] == ["Haferkekse", "Brot", None]
 
 
@@ -75,8 +75,8 @@ def test_check_as_json(folder, capsys):
         {"line": 1, "text": "]C110A\x1d17261231", "identifier": "]C1", "gtin": None, "elements": [
             {"ai": "10", "value": "A"}, {"ai": "17", "value": "261231", "date": "2026-12-31"}]},
         {"line": 2, "text": "96385075", "refused": 3, "name": "CheckDigit", "place": None,
-         "remedy": "a digit is wrong; if it is the last one, 96385074 is right"}]
-    assert json.loads(out[2])["refused"] is None
+         "remedy": "a digit is wrong; if it is the last one, 96385074 is right", "fixes": ["96385074"]}]
+    assert [json.loads(out[2])[key] for key in ("refused", "name", "place", "fixes")] == [5, "UnknownAi", None, ["[10]A)"]]
 
 
 def test_check_of_standard_input(folder, capsys, monkeypatch):
@@ -253,7 +253,7 @@ def test_a_list_is_corrected(folder, capsys):
     ("401234500002", "it may be 4012345000023, if its check digit is missing; 401234500005, if the last digit is wrong"),
     ("4O12345010008", "'O' is the letter O: write a zero, as in 4012345010008"), ("316148410X", "an ISBN of ten digits: write 9783161484100"),
     ("9638507", "the check digit is missing: compare 96385074 with the box"), ("EAN: 4012345010008", "write 4012345010008"),
-    ("1234565", "01234565 is right; it may also be 12345656, if its check digit is missing"), ("0000000000000", "a number of zeros alone"),
+    ("1234565", "]E401234565 is right; it may also be 12345656, if its check digit is missing"), ("0000000000000", "a number of zeros alone"),
     ("4012345010009", "a digit is wrong; if it is the last one, 4012345010008 is right"), ("4.01234501E+12", "has rounded it"),
 ])
 def test_advice(text, told_of, folder, capsys):

@@ -52,7 +52,10 @@ test("the examples of the README", () => {
   const error = thrown(() => gs1.parseElements("10AB\x1d17261331", 2026));
   assert.ok(error instanceof Refusal);
   assert.deepEqual([error.message, error.before.map(({ value }) => value), error.ai], ["refused 9 ValueDate 5", ["AB"], "17"]);
-  assert.match(error.remedy, /^write YYMMDD, with 00 for the last day of the month /);
+  assert.equal(error.remedy, "at 17261331: write YYMMDD, and 00 for the last day of the month: there is no such day or time");
+  assert.deepEqual(error.fixes, []);
+  assert.deepEqual(thrown(() => gs1.readScan("(10)AB(17)261231", 2026)).fixes, ["^10AB^17261231"]);
+  for (let number = 1; number < 45; number++) assert.doesNotMatch(new Refusal(number, "Name").remedy, /^$|[{}`]|undefined/);
   assert.throws(() => gs1.readGtin("9501101530004"), { number: 3, fault: "CheckDigit", before: [], ai: undefined });
 });
 

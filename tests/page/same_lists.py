@@ -22,7 +22,7 @@ from noriladle import Refusal, _shop
 from noriladle._columns import table_of
 from noriladle._fixing import fixed
 from noriladle._lists import Faults
-from noriladle._texts import Unreadable, read_text
+from noriladle._texts import read_text
 from noriladle.labels._articles import articles_of
 
 GERMAN = 1_000
@@ -32,7 +32,7 @@ NUMBERS = ["4012345010008", "4012345010374", "96385074", "012345000065", "095011
            "12345000065", "1234565", "01234565", "4012345010008.0", "123", "", "401234501000x", "0109501101530003", "٤٠١٢٣٤٥٠١٠٠٠٨",
            "=\"4012345010008\"", "'4012345010008", "EAN: 4012345010008", "0-306-40615-2", "080442957X", "４０１２３４５０１０００８", "4O12345010008",
            "4,012345010008E+12", "401234501000", "9780306406", "0000000000000", "4.012.345.010.008", "#4012345010008.", "4012345010008 (EAN)",
-           "(01)09501101530003(17)261231(10)LOT7", "(01)9501101530003", "(01)09501101530003(17)261331", "[10]A(B)C", "(10)A(B)", "(98765)1",
+           "(01)09501101530003(17)261231(10)LOT7", "(01)9501101530003", "(01)09501101530003(17)261331", "[10]A(B)C", "(10)A(B)", "(98765)1", "(9999)x", "(20)123", "4674009",
            "^10AB^17261231", "10AB\x1d17261231", "]C110AB^17261231", "]E04012345010008", "]E001234565", "]E04012345010375", "]E3abc",
            "https://id.gs1.org/01/09501101530003", "https://example.com/x", "]Q1https://id.gs1.org/01/09501101530003"]
 NAMES = ["Haferkekse", "Rye bread", "Käse, jung", "Blütenhonig \"cremig\"", "EAN reader", "", "שלום", "🍎 Apfel", "x" * 400, "a\nb", "u\u0308ber"]
@@ -124,7 +124,7 @@ def is_unreadable(text):
     """Whether the page has advice for a cell: it is no number, and no element string with separators."""
     try:
         read_text(text, 2026)
-    except (Refusal, Unreadable):
+    except Refusal:
         return "\x1d" not in text
     return False
 

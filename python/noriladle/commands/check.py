@@ -21,7 +21,8 @@ from typing import Any, Dict, Iterator, NamedTuple, Optional, Tuple
 from .. import Ais, Answer, Refusal
 from .._columns import Table, table_of
 from .._lists import Faults, Record
-from .._texts import Unreadable, is_elements, read_text, remedy_of, short, stripped
+from .._advice import remedy_of
+from .._texts import is_elements, read_text, short, stripped
 from .._shop import count_text, counted, told, translated
 from .._fixing import csv_of, fixed
 from . import REFUSED, RIGHT, Progress, WrongWords, add_ais, add_year, data_of, tell, write_files
@@ -48,6 +49,8 @@ class Checked(NamedTuple):
     answer: Optional[Answer]
     refusal: Optional[Refusal] = None
     remedy: str = ""
+    fixes: Tuple[str, ...] = ()
+    """Each text that may be meant."""
     article: str = ""
     """The article's name, if the list has one."""
 
@@ -92,7 +95,7 @@ def _fix(table: Table, name: str, words: argparse.Namespace) -> int:
         tell(f"{name}:{line}: {told('fixed', ' '.join(before.split()), after)}")
     refused = [checked for checked in checked_lines(list_of, words.year, words.ais) if not checked.answer]
     for checked in refused:
-        tell(f"{name}:{checked.line}: {_named(checked)}{checked.refusal or told('refusedLine')}: {checked.remedy}")
+        tell(f"{name}:{checked.line}: {_named(checked)}{checked.refusal}: {checked.remedy}")
     text = csv_of(list_of)
     if words.output == "-":
         sys.stdout.write(text)
@@ -108,7 +111,7 @@ def checked_lines(table: Table, year: int, ais: Ais = "all") -> Iterator[Checked
     faults = {fault.line: fault for fault in table.faults}
     for line in sorted({*records, *faults}):
         if line in faults:
-            yield Checked(line, "", None, None, faults[line].said)
+            yield Checked(line, "", None, Refusal(39, "Csv"), faults[line].said)
         else:
             article = " ".join(table.cell(records[line], "name").split())
             for text in _texts(table, records[line]):
@@ -128,9 +131,8 @@ def _checked(line: int, text: str, year: int, ais: Ais) -> Checked:
     try:
         return Checked(line, text, read_text(text, year, ais))
     except Refusal as refusal:
-        return Checked(line, text, None, refusal, remedy_of(text, refusal))
-    except Unreadable as error:
-        return Checked(line, text, None, None, str(error))
+        advice = remedy_of(text, refusal, year, ais)
+        return Checked(line, text, None, refusal, str(advice), advice.fixes)
 
 
 def _row(checked: Checked) -> str:
@@ -140,7 +142,7 @@ def _row(checked: Checked) -> str:
         identifier = checked.answer.identifier
         return f"{checked.line}\t{text}\t{f'{identifier} ' if identifier else ''}{checked.answer.text}"
     article = f"\t{checked.article}" if checked.article else ""
-    return f"{checked.line}\t{text}\t{checked.refusal or 'refused'}\t{checked.remedy}{article}"
+    return f"{checked.line}\t{text}\t{checked.refusal}\t{checked.remedy}{article}"
 
 
 def _named(checked: Checked) -> str:
@@ -154,5 +156,5 @@ def _data(checked: Checked) -> Dict[str, Any]:
     if checked.answer:
         return {**data, **data_of(checked.answer)}
     refusal = checked.refusal
-    return {**data, "refused": refusal.number if refusal else None, "name": refusal.name if refusal else None,
-            "place": refusal.place if refusal else None, "remedy": checked.remedy}
+    assert refusal, "what is not read is refused"
+    return {**data, "refused": refusal.number, "name": refusal.name, "place": refusal.place, "remedy": checked.remedy, "fixes": list(checked.fixes)}

@@ -20,7 +20,6 @@ from .. import Refusal, find
 from .._columns import Table, table_of
 from .._lists import MOST_LINES, Fault, Faults
 from .._shop import count_text, said, sentence_of_lines, told, translated
-from .._texts import remedy_of
 from ._articles import Article, articles_of
 from ._drawing import RESOLUTIONS, Cell, Drawing, Look, Warned, cell_of, rows_of
 from ._fonts import Fonts, fonts_of
@@ -243,7 +242,7 @@ def _item(article: Article, cell: Cell, fonts: Fonts, look: Look, year: int) -> 
     try:
         bars = bars_of(article.kind, article.text, year)
     except Refusal as refusal:
-        raise ValueError(f"{article.text}: {refusal}: {remedy_of(article.text, refusal)}".replace("\x1d", "^")) from None
+        raise ValueError(f"{article.text}: {refusal}: {refusal.remedy}".replace("\x1d", "^")) from None
     return Item(article, bars, module_of(bars, cell, look))
 
 

@@ -11,7 +11,8 @@ from .._amounts import Amounts, price_like
 from .._columns import Table
 from .._lists import Fault, Record
 from .._shop import count_text, said
-from .._texts import Unreadable, digits_of, element_string, is_elements, looks_right, read_text, remedy_of, short, stripped
+from .._advice import remedy_of
+from .._texts import digits_of, element_string, is_elements, looks_right, read_text, short, stripped
 
 _BY_LENGTH = {8: Kind.EAN8, 12: Kind.UPCA, 13: Kind.EAN13, 14: Kind.ITF14}
 """The kind of barcode for a GTIN of this many digits, if the list names no kind."""
@@ -91,7 +92,7 @@ class _Numbers:
         for cell in filter(looks_right, record.cells):
             try:
                 gtin = read_text(cell, year).gtin
-            except (Refusal, Unreadable):
+            except Refusal:
                 continue
             self.add(gtin or "", _Noted(record.line, None, ("", f"\0{record.line}")))
 
@@ -187,9 +188,7 @@ def _symbol(text: str, kind: Optional[Kind], year: int) -> Tuple[Kind, str, Answ
     try:
         answer = read_text(asked, year)
     except Refusal as refusal:
-        raise ValueError(f"{short(text)}: {refusal}: {remedy_of(text, refusal)}") from None
-    except Unreadable as error:
-        raise ValueError(f"{short(text)}: {error}") from None
+        raise ValueError(f"{short(text)}: {refusal}: {remedy_of(text, refusal, year)}") from None
     if answer.identifier in ("]Q1", "]d1") or text.lower().startswith("http"):
         raise ValueError(f"{short(text)}: {said('link', answer.text)}")
     usual = _usual_kind(asked, answer)
