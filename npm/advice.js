@@ -1,6 +1,6 @@
 // What to do about a refused call, in English: of the call that was asked, and of its text. Each text that it names in place of that one is read
 // by this call. As python/noriladle/_advice.py.
-import { paddedGtin, remedyAlone, remedyOfDigits, remedyOfIdentified, remedyOfString, usualRemedy, writtenOtherwise } from "./page.js";
+import { paddedGtin, remedyAlone, remedyOfDigits, remedyOfEither, remedyOfIdentified, remedyOfString, usualRemedy, writtenOtherwise } from "./page.js";
 import { SENTENCES } from "./remedies.js";
 
 // What the symbol of a row says is refused.
@@ -22,6 +22,7 @@ const OF_CALLS = {
   },
   label(refusal, asked) {
     if (!asked.kinds.includes(asked.kind)) return { key: "noLabelKind", values: [String(asked.kind), asked.kinds.join(", ")] };
+    if (refusal.number === 40) return remedyOfEither(asked, `01${asked.gtin(asked.text)}`);
     if (refusal.number > 11) return { key: refusal.number };
     return OF_CALLS[asked.isString ? "parseElements" : "readGtin"](refusal, asked);
   },

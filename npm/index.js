@@ -2,7 +2,7 @@
 import { adviceOf, wordsOf } from "./advice.js";
 import { aiAt, associations, doubts, elementOf, needsSeparator } from "./elements.js";
 import { MODULE, VERSION } from "./module.js";
-import { Gs1 as Calls, askFor, greyOf, gtinOf, symbolsShown } from "./page.js";
+import { Gs1 as Calls, askFor, greyOf, gtinOf, isGtin, symbolsShown } from "./page.js";
 
 export { VERSION, associations, doubts };
 
@@ -176,11 +176,11 @@ class Gs1 {
   labelSymbol(kind, text, year, options) { return noting(this.#askedOfLabel(kind, text, year, options), () => this.#symbol(kind, text, year, options)); }
 
   #askedOfLabel(kind, text, year, options) {
-    return askedOf("label", text, (it) => this.#symbol(kind, it, year, options), { kind, kinds: Calls.kinds, isString: kind === "gs1128" });
+    return askedOf("label", text, (it) => this.#symbol(kind, it, year, options), { kind, kinds: Calls.kinds, isString: kind === "gs1128", gtin: (it) => this.readGtin(it) });
   }
 
   #symbol(kind, text, year, options) {
-    const line = this.#ask("gs1_c_symbol", Calls.kinds.indexOf(kind), ...this.#put(bytesOf(text)), termsOf(year, options));
+    const line = this.#ask("gs1_c_symbol", Calls.kinds.indexOf(kind), ...this.#put(labelBytes(kind, text)), termsOf(year, options));
     const [, under, left, right, widths] = line.split(" ");
     return { text: under, quietLeft: Number(left), quietRight: Number(right), widths: Array.from(widths, Number) };
   }
@@ -188,7 +188,7 @@ class Gs1 {
   drawLabel(kind, text, { year, module = 1, width, height, ais }) {
     const dots = [module, width, height].map(u16);
     return noting(this.#askedOfLabel(kind, text, year, { ais }), () => {
-      const image = this.#calls.ask(this.#calls.calls.gs1_c_label, Calls.kinds.indexOf(kind), ...this.#put(bytesOf(text)), termsOf(year, { ais }), ...dots);
+      const image = this.#calls.ask(this.#calls.calls.gs1_c_label, Calls.kinds.indexOf(kind), ...this.#put(labelBytes(kind, text)), termsOf(year, { ais }), ...dots);
       // An image begins with P4.
       if (image[0] !== 0x50) throw this.#refusalIn(this.#calls.line(image));
       return image.slice();
@@ -280,6 +280,16 @@ class Gs1 {
 
 const answerOf = ({ identifier, symbol, elements }) => new Answer(identifier || undefined, symbol, elements);
 const bytesOf = (text) => (typeof text === "string" ? new TextEncoder().encode(text) : text);
+
+// The text of a label as the library takes it: of an element string without a separator in front, and each as byte 29. The digits of a GTIN
+// may be one too, so they are refused as such.
+function labelBytes(kind, text) {
+  const bytes = bytesOf(text);
+  if (kind !== "gs1128") return bytes;
+  if (isGtin(latin1(bytes))) throw new Refusal(40, "Kind");
+  return bytes.subarray([0x1d, 0x5e].includes(bytes[0]) ? 1 : 0).map((byte) => (byte === 0x5e ? 0x1d : byte));
+}
+
 const latin1 = (bytes) => String.fromCharCode(...bytes);
 
 export const load = async () => new Gs1(await Calls.load(MODULE, 32));

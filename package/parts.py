@@ -118,7 +118,7 @@ def npm_files() -> Files:
 _NPM_EXPORT = """\
 export {
   AIS, COUNTRY_LETTERS, Gs1, KNOWN_COUNTRIES, countriesOf, countryCodes, currencyOf, greyOf, gtinOf, isOf, numberOf, paddedGtin, placeOf, remedyAlone,
-  remedyOfDigits, remedyOfIdentified, remedyOfString, symbolsShown, unitOf, usualRemedy, writtenOtherwise,
+  isGtin, remedyOfDigits, remedyOfEither, remedyOfIdentified, remedyOfString, symbolsShown, unitOf, usualRemedy, writtenOtherwise,
 };
 
 // The calls of the module that these scripts ask.

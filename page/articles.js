@@ -122,7 +122,8 @@ function symbolOfRecord(cell) {
   const gtin = stripped(cell("gtin")), elements = stripped(cell("gs1")), typed = gtin || elements;
   if (gtin && elements) return { typed, fault: { key: "twoNumbers" } };
   if (!typed) return { typed, fault: { key: "noNumber" } };
-  const text = gtin || (isElements(elements) || elements[0] === "]" ? elements : `^${elements}`);
+  const text = gtin || inColumn(elements);
+  if (!text) return { typed, ...faultOfText(elements, remedyOfColumn(elements), "refused 40 Kind") };
   return { typed, ...symbolTold(text, plainText(cell("kind"))) };
 }
 

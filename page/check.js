@@ -19,7 +19,9 @@ const LEAST_SCANNED = 7, QUICK = 35;
 let answers = [], typing = { count: 0, since: 0 };
 
 // The kind of a line and what it says; or its error.
-function answerOf(text, line) {
+function answerOf(typed, line, isString = false) {
+  const text = isString ? inColumn(typed) : typed;
+  if (text === null) return { line, typed, kind: "elements", fault: remedyOfColumn(typed) };
   const answer = { line, typed: text, kind: kindOf(text) }, said = readText(text);
   // On a German keyboard, a scanner that is set to an American one types ] as +.
   if (/^\+[A-Za-z]\d/.test(text)) return { ...answer, kind: "scanner", fault: { key: "layout" } };
@@ -40,17 +42,17 @@ function answersTo(text) {
   if (!text.trim()) return [];
   try {
     const table = tableOf({ text, isSheet: false, faults: [] }), wrong = table.faults.map(({ line, fault }) => ({ line, typed: "", kind: "gtin", fault }));
-    return [...table.records.flatMap((record) => textsOf(table, record).map((one) => answerOf(one, record.line))), ...wrong].sort((a, b) => a.line - b.line);
+    return [...table.records.flatMap((record) => textsOf(table, record).map(([text, isString]) => answerOf(text, record.line, isString))), ...wrong].sort((a, b) => a.line - b.line);
   } catch (error) {
     if (!(error instanceof Faults)) throw error;
     return error.faults.map(({ line, fault }) => ({ line, typed: "", kind: "gtin", fault }));
   }
 }
 
-// The texts of a record: one, unless it has both a number and an element string.
+// The texts of a record, and whether each is in a column of element strings: one, unless it has a number too.
 function textsOf(table, record) {
   const [number, elements] = ["gtin", "gs1"].map((meaning) => stripped(cellIn(table, record, meaning)));
-  return [...(number || !elements ? [number] : []), ...(elements ? [isElements(elements) || elements[0] === "]" ? elements : `^${elements}`] : [])];
+  return [...(number || !elements ? [[number, false]] : []), ...(elements ? [[elements, true]] : [])];
 }
 
 function check() {

@@ -29,6 +29,12 @@ function looksRight(cell) {
   return /^\p{Nd}{7,14}$/u.test(digits) || ROUNDED.test(digits) || LINK.test(text);
 }
 
+// A text of a column of element strings as it is read, since it needs no mark there; or nothing for the digits of a GTIN, which may be
+// elements too.
+const inColumn = (text) => isElements(text) || text[0] === "]" ? text : isGtin(text) ? null : `^${text}`;
+
+const isGtin = (text) => /^[0-9]+$/.test(text) && !core.gtin(text).refused;
+
 // What a text says: the identifier that a scanner sent, and the elements; or the line of its error.
 function readText(typed) {
   const text = stripped(typed);
@@ -91,7 +97,8 @@ const ALONE_KEYS = { 5: "noAi", 6: "valueLength", 7: "valueCharacter", 10: "valu
 const remedyOf = (typed, refused) => remedyOfTyped(refusalOf(refused), { text: stripped(typed), reads: (text) => !readText(text).refused, call: "readText" });
 
 function remedyOfTyped(refusal, asked) {
-  if (refusal.number === 42) return { key: 42 };
+  // Others are of the label, the year or the machine.
+  if (refusal.number > 11 && refusal.number !== 40) return { key: refusal.number };
   if (asked.text[0] === "]" || LINK.test(asked.text)) return remedyOfIdentified(refusal, asked);
   if (asked.text[0] in BRACKETED) return remedyOfPrinted(refusal, asked);
   return isElements(asked.text) ? remedyOfString(refusal, asked, asked.text, "^") : remedyOfDigits(refusal, asked);
@@ -175,6 +182,15 @@ function remedyOfDigits(refusal, asked) {
   if (/^[0-9]{15,}$/.test(digits) && asked.reads(string)) return { key: "manyDigits", values: [string], fixes: [string] };
   return number === 40 ? { key: 1 } : usualRemedy(number, asked.call === "readGtin" ? text : digits, place, "^");
 }
+
+// The question which of two texts is meant, of the digits of a GTIN where elements are wanted, if both are read.
+function remedyOfEither({ text, reads }, gtin) {
+  const both = [gtin, `^${text}`].filter(reads);
+  return { key: both.length === 2 ? "gtinOrElements" : "plainly", values: both, fixes: both };
+}
+
+const remedyOfColumn = (text) =>
+  ({ ...remedyOfEither({ text, reads: (it) => !readText(it).refused }, `(01)${gtinOf(core.gtin(text).elements)}`), refused: "refused 40 Kind" });
 
 // What is said of the number of an error, with the sign or the separator that it is about.
 function usualRemedy(number, text, place, separator) {

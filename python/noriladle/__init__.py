@@ -794,11 +794,17 @@ def label_symbol(kind: Union[Kind, str], text: Union[str, bytes], year: int, *, 
         >>> symbol.text, symbol.quiet_left, symbol.quiet_right, sum(symbol.widths)
         ('01234565', 9, 7, 51)
 
-    :raises Refusal: 40 ``Kind`` if there is no such kind, 42 ``Words`` if the year is out of range, 1 to 11 for the text,
-        and 26 ``LabelKind`` if the text has no such symbol.
+    A GS1-128 takes an element string, with ``"\\x1d"`` or ``"^"`` as the separator. The digits of a GTIN may be one too, so
+    they are refused as such. With a separator in front they are elements:
+
+        >>> label_symbol("gs1128", "^9501101530003", year=2026).text
+        '(95)01101530003'
+
+    :raises Refusal: 40 ``Kind`` if there is no such kind, or for a GS1-128 of the digits of a GTIN; 42 ``Words`` if the year is
+        out of range, 1 to 11 for the text, and 26 ``LabelKind`` if the text has no such symbol.
     """
-    said = _bytes(text)
     try:
+        said = _label_text(kind, text)
         answer = _ask(_library.gs1_symbol, _kind(kind).value, said, len(said), _terms(year, ais), room=_SYMBOL)
         _, under, left, right, widths = _line(answer).split(" ")
     except Refusal as refusal:
@@ -808,6 +814,24 @@ def label_symbol(kind: Union[Kind, str], text: Union[str, bytes], year: int, *, 
 
 def _name_of(kind: Union[Kind, str]) -> str:
     return kind.name.lower() if isinstance(kind, Kind) else kind
+
+
+def _label_text(kind: Union[Kind, str], text: Union[str, bytes]) -> bytes:
+    """The text of a label as the library takes it: of an element string without a separator in front, and each as byte 29.
+
+    :raises Refusal: 40 ``Kind`` if an element string is wanted, and these are the digits of a GTIN without a mark.
+    """
+    said = _bytes(text)
+    if _kind(kind) is not Kind.GS1128:
+        return said
+    if _is_gtin(said):
+        raise Refusal(40, "Kind")
+    string = said.replace(b"^", b"\x1d")
+    return string[1:] if string[:1] == b"\x1d" else string
+
+
+def _is_gtin(text: bytes) -> bool:
+    return text.isdigit() and isinstance(_said(_library.gs1_read_gtin, text, len(text), _ANY_YEAR), Answer)
 
 
 def _kind(kind: Union[Kind, str]) -> Kind:
@@ -824,15 +848,15 @@ def draw_label(
 ) -> bytes:
     """A label as the bytes of a PBM image, of ``width`` by ``height`` dots, its modules ``module`` dots wide.
 
-    The kind may be a name, such as ``"ean13"``. A module is 1 to 8 dots, the width 1 to 4,096, and the height more than
+    The kind may be a name, such as ``"ean13"``, and takes the texts of :func:`label_symbol`. A module is 1 to 8 dots, the width 1 to 4,096, and the height more than
     two modules and at most 1,024.
 
-    :raises Refusal: 40 ``Kind`` if there is no such kind, 42 ``Words`` if the year is out of range, 25 ``BadGrid`` for the
-        dots, 1 to 11 for the text, 26 ``LabelKind`` if it has no such symbol, 27 ``LabelWidth`` if that does not fit.
+    :raises Refusal: 40 ``Kind`` if there is no such kind, or for a GS1-128 of the digits of a GTIN; 42 ``Words`` if the year is
+        out of range, 25 ``BadGrid`` for the dots, 1 to 11 for the text, 26 ``LabelKind`` if it has no such symbol, 27 ``LabelWidth`` if that does not fit.
     """
-    said = _bytes(text)
     words = [_u16(number) for number in (module, width, height)]
     try:
+        said = _label_text(kind, text)
         image = _ask(_library.gs1_label, _kind(kind).value, said, len(said), _terms(year, ais), *words)
         if not image.startswith(b"P4"):
             _line(image)

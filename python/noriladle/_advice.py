@@ -5,7 +5,7 @@ from __future__ import annotations
 import re
 from typing import Callable, Dict, Iterator, NamedTuple, Optional
 
-from . import Ais, Kind, Refusal, _remedies, check_digit, label_symbol, parse_elements, read_gtin, read_scan
+from . import _ANY_YEAR, Ais, Kind, Refusal, _remedies, check_digit, label_symbol, parse_elements, read_gtin, read_scan
 from ._mending import Advice, Written, advice, is_number, meant
 from ._texts import BRACKETED, LINK, ROUNDED, digits_of, element_string, is_elements, pairs_of, read_text, stripped
 from ._values import ai_at, rows
@@ -39,7 +39,7 @@ class Asked(NamedTuple):
     def reads(self, text: str) -> bool:
         """Whether the call reads another text."""
         calls: Dict[str, Callable[[], object]] = {
-            "read_text": lambda: read_text(text, self.year, self.ais), "read_scan": lambda: read_scan(text, self.year, ais=self.ais),
+            "read_text": lambda: read_text(text, self.year, self.ais), "column": lambda: read_text(text, _ANY_YEAR), "read_scan": lambda: read_scan(text, self.year, ais=self.ais),
             "parse_elements": lambda: parse_elements(text, self.year, ais=self.ais), "read_gtin": lambda: read_gtin(text),
             "check_digit": lambda: check_digit(text), "label": lambda: label_symbol(self.kind, text, self.year, ais=self.ais)}
         try:
@@ -53,7 +53,8 @@ def advice_of(refusal: Refusal, asked: Asked) -> Advice:
     if refusal.number == 42:
         return Advice("42")
     of_calls = {"read_text": _of_typed, "read_scan": _of_scan, "parse_elements": _of_elements, "read_gtin": _of_digits,
-                "check_digit": _of_check_digit, "label": _of_label, "compose": _of_pair, "row": _of_row, "picture": _of_picture}
+                "check_digit": _of_check_digit, "label": _of_label, "compose": _of_pair, "column": _of_column, "row": _of_row,
+                "picture": _of_picture}
     return of_calls.get(asked.call, _of_any)(refusal, asked)
 
 
@@ -63,6 +64,8 @@ def remedy_of(text: str, refusal: Refusal, year: int, ais: Ais = "all") -> Advic
 
 
 def _of_typed(refusal: Refusal, asked: Asked) -> Advice:
+    if refusal.number > 11 and refusal.number != 40:
+        return Advice(str(refusal.number))  # Of the label, the year or the machine.
     asked = asked._replace(text=stripped(asked.text))
     if asked.text[:1] == "]" or LINK.match(asked.text):
         return _of_identified(refusal, asked)
@@ -187,9 +190,22 @@ def _of_label(refusal: Refusal, asked: Asked) -> Advice:
     kinds = [it.name.lower() for it in Kind]
     if asked.kind not in kinds:
         return Advice("noLabelKind", (asked.kind, ", ".join(kinds)))
+    if refusal.number == 40:
+        return _of_either(asked, f"01{read_gtin(asked.text)}")
     if refusal.number not in range(1, 12):
         return Advice(str(refusal.number))
     return _of_elements(refusal, asked) if asked.kind == "gs1128" else _of_digits(refusal, asked)
+
+
+def _of_column(refusal: Refusal, asked: Asked) -> Advice:
+    """What to do about the digits of a GTIN in a column of element strings."""
+    return _of_either(asked, f"(01){read_gtin(asked.text)}")
+
+
+def _of_either(asked: Asked, gtin: str) -> Advice:
+    """The question which of two texts is meant, if both are read."""
+    both = tuple(it for it in (gtin, f"^{asked.text}") if asked.reads(it))
+    return Advice("gtinOrElements" if len(both) == 2 else "plainly", both, both)
 
 
 def _of_elements(refusal: Refusal, asked: Asked) -> Advice:

@@ -4,7 +4,7 @@ from __future__ import annotations
 import re
 from typing import List, Tuple
 
-from . import Ais, Answer, Refusal, read_gtin, read_scan
+from . import Ais, Answer, Refusal, _is_gtin, _noted, read_gtin, read_scan
 
 BRACKETED = {"(": re.compile(r"\((\d{2,4})\)([^()]+)"), "[": re.compile(r"\[(\d{2,4})\]([^][]+)")}
 _BLANKS = re.compile(r"[\s\xa0\u2007\u202f]+")
@@ -98,6 +98,18 @@ def element_string(text: str) -> str:
         return text.replace("^", "\x1d")
     # The symbol has no separator that it does not need.
     return "\x1d".join(f"{ai}{value}" for ai, value in pairs_of(text))
+
+
+def in_column(text: str) -> str:
+    """A text of a column of element strings as :func:`read_text` takes it: it needs no mark there.
+
+    :raises Refusal: 40 ``Kind`` for the digits of a GTIN, which may be elements too.
+    """
+    if not text or is_elements(text) or text[0] == "]":
+        return text
+    if _is_gtin(text.encode("utf-8", "surrogatepass")):
+        raise _noted(Refusal(40, "Kind"), "column", text)
+    return f"^{text}"
 
 
 def pairs_of(text: str) -> List[Tuple[str, str]]:

@@ -109,6 +109,18 @@ def test_each_refusal_has_a_cause_and_a_remedy():
     assert noriladle.Refusal(3, "CheckDigit").cause.startswith("a digit was misread or mistyped")
 
 
+def test_a_gtin_is_no_element_string_unless_it_has_a_mark():
+    for text in ("9501101530003", b"9501101530003", "96385074", "012345000065", "09501101530003"):
+        for call in (noriladle.draw_label, noriladle.label_symbol):
+            assert refused(call, noriladle.Kind.GS1128, text, 2026).number == 40
+    for text in ("^9501101530003", "\x1d9501101530003", b"^9501101530003"):
+        assert noriladle.label_symbol("gs1128", text, 2026).text == "(95)01101530003"
+    assert noriladle.label_symbol("gs1128", "9501101530004", 2026).text == "(95)01101530004"
+    assert noriladle.label_symbol("gs1128", "10AB^17261231", 2026) == noriladle.label_symbol("gs1128", "10AB\x1d17261231", 2026)
+    assert noriladle.draw_label("gs1128", "^10AB", 2026) == noriladle.draw_label("gs1128", "10AB", 2026)
+    assert refused(noriladle.label_symbol, "gs1128", "^10AB^17261331", 2026).place == 5
+
+
 def refused(call, *words):
     with pytest.raises(Refusal) as raised:
         call(*words)
@@ -131,6 +143,8 @@ def test_a_remedy_is_of_the_call_that_was_asked():
         (noriladle.compose, ([("10", "A"), ("01", "9501101530003")],), "at (01)9501101530003: a GTIN has 14 digits here: (01)09501101530003", []),
         (noriladle.compose, ([("", "")],), "there is no such Application Identifier", []),
         (noriladle.label_symbol, ("qr", "1", 2026), "there is no kind 'qr': it is one of ean13, upca, ean8, upce, gs1128, itf14", []),
+        (noriladle.draw_label, ("gs1128", "9501101530003", 2026), "is this a GTIN, or are these elements? write 0109501101530003 or ^9501101530003",
+         ["0109501101530003", "^9501101530003"]),
         (noriladle.draw_label, ("ean13", "4012345010375", 2026), "a digit is wrong; if it is the last one, 4012345010374 is right", ["4012345010374"]),
         (noriladle.read_row, ([10, 70_000, 10], 2026), "the row has more than 65,535 dots: scan at a lower resolution", []),
         (noriladle.read_dots, (b"", 9, 2026), "give the widths of light and dark in turn, an odd count of them and 0 only at the ends, or as many "

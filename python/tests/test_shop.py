@@ -62,6 +62,17 @@ def test_check_of_a_list(folder, capsys):
     assert [json.loads(line).get("article") for line in told(["check", "a.csv", "--json"], capsys)[1]] == ["Haferkekse", "Brot", None]
 
 
+def test_a_gtin_in_a_column_of_element_strings_is_asked_about(folder, capsys):
+    save("a.csv", "gs1;name\n9501101530003;Oats\n^9501101530003;Oats\n109501;Oats\n(01)09501101530003;Oats\n")
+    status, out, _ = told(["check", "a.csv"], capsys)
+    assert status == 1 and out == [
+        "2\t9501101530003\trefused 40 Kind\tis this a GTIN, or are these elements? write (01)09501101530003 or ^9501101530003\tOats",
+        "3\t^9501101530003\t(95)01101530003", "4\t^109501\t(10)9501", "5\t(01)09501101530003\t(01)09501101530003"]
+    assert told(["labels", "a.csv", "--no-price", "-o", "a.svg"], capsys)[2][-2:] == [
+        "a.csv:2: 9501101530003: refused 40 Kind: is this a GTIN, or are these elements? write (01)09501101530003 or ^9501101530003",
+        "a.csv: 1 line refused, so nothing was written"]
+
+
 def test_check_of_a_list_without_numbers_has_no_sum(folder, capsys):
     save("a.csv", "EAN;Name\n;Getränke\n")
     assert told(["check", "a.csv"], capsys) == (0, [], ["a.csv: 1 line without a number is passed over: 2"])

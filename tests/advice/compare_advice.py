@@ -82,6 +82,7 @@ def questions(chance, texts):
         behind = re.sub(r"^(\][A-Za-z][0-9]|\^|\x1d)", "", text)
         asked.append((chance.choice(["elements", "gtin", "digit"]), chance.choice([text, behind])))
         asked.append(("label", chance.choice(["ean13", "upca", "ean8", "upce", "gs1128", "itf14", "qr"]), behind))
+        asked.append(("label", "gs1128", chance.choice(["4012345010008", "96385074", behind])))
         asked.append(("compose", behind[:chance.choice([2, 3, 4])], behind[4:].replace("^", "")))
     for _ in range(len(texts) // 20):
         widths = [chance.choice([10, *noriladle.label_symbol("ean13", "4012345010008", YEAR).widths, 0, 70_000][:chance.randrange(1, 64)])

@@ -145,7 +145,9 @@ def by_python(line):
             answer = noriladle.read_scan(text, YEAR)
             symbol = SYMBOLS.index(answer.symbol)
             return f"scan {answer.identifier or '-'} {symbol} {answer.gtin or '-'} {pairs(answer.elements)}", ""
-        symbol = noriladle.label_symbol(KINDS[int(line[0])], text, YEAR)
+        kind = KINDS[int(line[0])]
+        # With a mark, since the digits of a GTIN may be elements too.
+        symbol = noriladle.label_symbol(kind, f"^{text}" if kind == "gs1128" else text, YEAR)
         return f"symbol {symbol.text} {symbol.quiet_left} {symbol.quiet_right} {''.join(map(str, symbol.widths))}", ""
     except noriladle.Refusal as refusal:
         return str(refusal), as_json([pairs(refusal.before), refusal.ai])

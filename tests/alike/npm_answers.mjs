@@ -19,7 +19,8 @@ function answer(line) {
       const answer = gs1.readScan(text, 2026);
       return `scan ${answer.identifier ?? "-"} ${symbols.indexOf(answer.symbol)} ${answer.gtin ?? "-"} ${pairsOf(answer.elements)}`;
     }
-    const { text: under, quietLeft, quietRight, widths } = gs1.labelSymbol(kinds[line[0]], text, 2026);
+    // With a mark, since the digits of a GTIN may be elements too.
+    const kind = kinds[line[0]], { text: under, quietLeft, quietRight, widths } = gs1.labelSymbol(kind, kind === "gs1128" ? `^${text}` : text, 2026);
     return `symbol ${under} ${quietLeft} ${quietRight} ${widths.join("")}`;
   } catch (error) {
     if (!(error instanceof Refusal)) throw error;

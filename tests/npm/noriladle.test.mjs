@@ -141,6 +141,18 @@ test("the symbol of a label in modules", () => {
   assert.throws(() => gs1.labelSymbol("qr", "9501101530003", 2026), { number: 40 });
 });
 
+test("a GTIN is no element string unless it has a mark", () => {
+  for (const text of ["9501101530003", new TextEncoder().encode("96385074")]) {
+    const error = thrown(() => gs1.labelSymbol("gs1128", text, 2026));
+    assert.deepEqual([error.number, error.fault, error.fixes.length], [40, "Kind", 2]);
+    assert.throws(() => gs1.drawLabel("gs1128", text, { year: 2026, width: 400, height: 60 }), { number: 40 });
+  }
+  assert.equal(thrown(() => gs1.labelSymbol("gs1128", "9501101530003", 2026)).remedy,
+    "is this a GTIN, or are these elements? write 0109501101530003 or ^9501101530003");
+  for (const text of ["^9501101530003", "\x1d9501101530003"]) assert.equal(gs1.labelSymbol("gs1128", text, 2026).text, "(95)01101530003");
+  assert.equal(gs1.labelSymbol("gs1128", "10AB^17261231", 2026).text, "(10)AB(17)261231");
+});
+
 test("what no call can take", () => {
   assert.throws(() => gs1.readScan("]E09501101530003", 1900), { number: 42, fault: "Words" });
   assert.throws(() => gs1.readScan("]E09501101530003", NaN), { number: 42 });

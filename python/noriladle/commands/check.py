@@ -22,7 +22,7 @@ from .. import Ais, Answer, Refusal
 from .._columns import Table, table_of
 from .._lists import Faults, Record
 from .._advice import remedy_of
-from .._texts import is_elements, read_text, short, stripped
+from .._texts import in_column, read_text, short, stripped
 from .._shop import count_text, counted, told, translated
 from .._fixing import csv_of, fixed
 from . import REFUSED, RIGHT, Progress, WrongWords, add_ais, add_year, data_of, tell, write_files
@@ -114,20 +114,24 @@ def checked_lines(table: Table, year: int, ais: Ais = "all") -> Iterator[Checked
             yield Checked(line, "", None, Refusal(39, "Csv"), faults[line].said)
         else:
             article = " ".join(table.cell(records[line], "name").split())
-            for text in _texts(table, records[line]):
-                yield _checked(line, text, year, ais)._replace(article=article)
+            for text, is_string in _texts(table, records[line]):
+                yield _checked(line, text, is_string, year, ais)._replace(article=article)
 
 
-def _texts(table: Table, record: Record) -> Iterator[str]:
-    """The texts of a record: one, unless it has both a number and an element string."""
+def _texts(table: Table, record: Record) -> Iterator[Tuple[str, bool]]:
+    """The texts of a record, and whether each is in a column of element strings: one, unless it has a number too."""
     number, elements = stripped(table.cell(record, "gtin")), stripped(table.cell(record, "gs1"))
     if number or not elements:
-        yield number
+        yield number, False
     if elements:
-        yield elements if is_elements(elements) or elements[0] == "]" else f"^{elements}"
+        yield elements, True
 
 
-def _checked(line: int, text: str, year: int, ais: Ais) -> Checked:
+def _checked(line: int, text: str, is_string: bool, year: int, ais: Ais) -> Checked:
+    try:
+        text = in_column(text) if is_string else text
+    except Refusal as refusal:
+        return Checked(line, text, None, refusal, refusal.remedy, refusal.fixes)
     try:
         return Checked(line, text, read_text(text, year, ais))
     except Refusal as refusal:

@@ -12,7 +12,7 @@ from .._columns import Table
 from .._lists import Fault, Record
 from .._shop import count_text, said
 from .._advice import remedy_of
-from .._texts import digits_of, element_string, is_elements, looks_right, read_text, short, stripped
+from .._texts import digits_of, element_string, in_column, is_elements, looks_right, read_text, short, stripped
 
 _BY_LENGTH = {8: Kind.EAN8, 12: Kind.UPCA, 13: Kind.EAN13, 14: Kind.ITF14}
 """The kind of barcode for a GTIN of this many digits, if the list names no kind."""
@@ -160,7 +160,10 @@ def _number(table: Table, record: Record, year: int) -> Tuple[Kind, str, Answer]
         raise ValueError(said("twoNumbers"))
     if not gtin and not elements:
         raise ValueError(said("noNumber"))
-    text = gtin or (elements if is_elements(elements) or elements[0] == "]" else f"^{elements}")
+    try:
+        text = gtin or in_column(elements)
+    except Refusal as refusal:
+        raise ValueError(f"{short(elements)}: {refusal}: {refusal.remedy}") from None
     return _symbol(text, _kind(_plain(table.cell(record, "kind"))), year)
 
 

@@ -76,5 +76,6 @@ def bars_of(kind: Kind, text: str, year: int) -> Bars:
 
     :raises Refusal: as :func:`noriladle.label_symbol`.
     """
-    symbol = label_symbol(kind, text, year)
+    # These are elements, also if their digits may be a GTIN.
+    symbol = label_symbol(kind, f"^{text}" if kind is Kind.GS1128 else text, year)
     return Bars(kind, (symbol.quiet_left, *symbol.widths, symbol.quiet_right), symbol.text)
