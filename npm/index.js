@@ -199,9 +199,12 @@ class Gs1 {
 
   #picture(pixels, year, { level = 0, ais } = {}) {
     if (!Number.isInteger(level) || level < 0 || level > 255) throw new RangeError("the level is not 1 to 255");
-    const terms = termsOf(year, { ais }), { symbols, reason } = symbolsShown(this.#calls.picture(greyOf(pixels), level, terms)), refusal = this.#refusalIn(reason);
+    const terms = termsOf(year, { ais }), { symbols, dropped, reason } = symbolsShown(this.#calls.picture(greyOf(pixels), level, terms));
+    const refusal = this.#refusalIn(reason);
     if (refusal && OF_THE_CALL.includes(refusal.number)) throw refusal;
-    return symbols.map(({ said, corners, rows }) => ({ answer: answerOf(this.#calls.said(said, terms)), corners, rows }));
+    if (refusal) ASKED.set(refusal, { call: "picture" });
+    const shown = symbols.map(({ said, corners, rows }) => ({ answer: answerOf(this.#calls.said(said, terms)), corners, rows }));
+    return Object.defineProperties(shown, { dropped: { value: dropped }, reason: { value: refusal } });
   }
 
   // The line of a call, unless it is an error.

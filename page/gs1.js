@@ -164,13 +164,13 @@ function gtinOf(elements) {
   return values.size === 1 ? [...values][0] : undefined;
 }
 
-// The symbols in the lines of a picture, in reading order, each with its corners, how many rows show it and what it says; for a picture
-// without a symbol, the line that says why.
+// The symbols in the lines of a picture, in reading order, each with its corners, how many rows show it and what it says, and how many more
+// there are, at least; for a picture without a symbol, the line that says why.
 function symbolsShown(lines) {
-  if (!lines.endsWith("\n")) return { symbols: [], reason: lines };
+  if (!lines.endsWith("\n")) return { symbols: [], dropped: 0, reason: lines };
   const symbols = Array.from(lines.matchAll(/^((?:\d+ ){8})(\d+) (.*)$/gm), ([, places, rows, said]) => {
     const at = places.trim().split(" ").map((place) => Number(place) / 256);
     return { said, rows: Number(rows), corners: [0, 2, 4, 6].map((i) => ({ x: at[i], y: at[i + 1] })) };
   });
-  return { symbols, reason: "" };
+  return { symbols, dropped: Number(lines.match(/^dropped (\d+)$/m)?.[1] ?? 0), reason: "" };
 }

@@ -39,7 +39,7 @@ if TYPE_CHECKING:
     from .picture import Picture
 
 __all__ = [
-    "Ais", "Answer", "Association", "Box", "Doubt", "Element", "Found", "Kind", "LabelSymbol", "Place", "Refusal", "Symbol", "SymbolKind",
+    "Ais", "Answer", "Association", "Box", "Doubt", "Element", "Found", "Kind", "LabelSymbol", "Place", "Refusal", "Symbol", "SymbolKind", "Symbols",
     "associations", "check_digit", "compose", "doubts", "draw_label", "find", "find_dots", "label_symbol", "parse_elements", "read_dots",
     "read_elements", "read_gtin", "read_picture", "read_row", "read_scan",
 ]
@@ -356,6 +356,15 @@ class Box(NamedTuple):
     bottom: int
 
 
+class Symbols(List["Symbol"]):
+    """The symbols of a picture: a list that also says what it does not have."""
+
+    dropped: int = 0
+    """How many more symbols were found, at least."""
+    reason: Optional[Refusal] = None
+    """If there is no symbol, the error of the row that came furthest; None if no row looked like a symbol."""
+
+
 @dataclass(frozen=True)
 class Symbol:
     """A symbol of a picture."""
@@ -566,29 +575,30 @@ def find(widths: Sequence[int], year: int, *, ais: Ais = "all") -> List[Found]:
 
 
 @_about("picture")
-def read_picture(picture: Picture, year: int, *, level: Optional[int] = None, ais: Ais = "all") -> List[Symbol]:
+def read_picture(picture: Picture, year: int, *, level: Optional[int] = None, ais: Ais = "all") -> Symbols:
     """Every symbol of a picture, in the order of reading: line by line, and from left to right.
 
-    The picture is an image of Pillow's, the path of a file (its first image), or an array with a row of grey, RGB or
-    RGBA values for each line: of 8 or 16 bits, or ``bool``, where ``True`` is light. The orientation that a file names
-    is ignored. Dates are read by the reference year, 1951 to 2149.
+    The picture is an image of Pillow's, a file (its first image), or an array with a row of grey, RGB or RGBA values for
+    each line: of 8 or 16 bits, or ``bool``, where ``True`` is light. A file is its path, its bytes, or an open binary
+    stream, such as that of an upload, which is read to its end. The orientation that a file names is ignored. Dates are read by the reference year, 1951 to 2149.
 
     With a level, 1 to 255, only the picture's own rows are read, and pixels below the level are dark. Without one, the
     level is that which separates the picture's values best, and symbols are also found at other angles and in uneven
-    light. At most 192 symbols are reported.
+    light. At most 192 symbols are reported; ``dropped`` of the answer says how many more there are, at least. If there is
+    none, ``reason`` is the error of the row that came furthest.
 
     Needs numpy and Pillow: ``pip install noriladle[picture]``.
 
     :raises ImportError: numpy or Pillow is not installed.
-    :raises OSError: the file is missing, or no JPEG, PNG, TIFF, PBM, PGM, PPM, BMP, GIF or WebP.
+    :raises OSError: the file is missing or damaged, or no JPEG, PNG, TIFF, PBM, PGM, PPM, BMP, GIF or WebP.
     :raises Refusal: 17 ``TooWide`` if a side has more than 65,535 pixels; 44 ``InputSize`` if a file's picture has more
-        than 100,000,000; 42 ``Words`` if the year is out of range.
+        than 100,000,000, or a stream more than 1,000,000,000 bytes; 42 ``Words`` if the year is out of range.
     :raises TypeError: the pixels are of another type.
     :raises ValueError: the array has another shape, or the level is out of range.
     """
     from . import picture as pictures
 
-    return pictures.read(picture, year, level, ais).symbols
+    return pictures.read(picture, year, level, ais)
 
 
 @_about("row")

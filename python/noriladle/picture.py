@@ -1,10 +1,13 @@
 """Reads the symbols of a picture by its grey values, with the library (docs/PICTURES.md)."""
 from __future__ import annotations
 
+import io
 import math
 import os
+import struct
 import warnings
-from typing import Any, BinaryIO, List, NamedTuple, Optional, Tuple, Union
+import zlib
+from typing import Any, BinaryIO, Optional, Tuple, Union
 
 try:
     import numpy
@@ -12,15 +15,21 @@ try:
 except ImportError as error:
     raise ImportError("read_picture needs numpy and Pillow: pip install 'noriladle[picture]'") from error
 
-from . import _MOST, Ais, Box, Refusal, Symbol, _ask, _library, _line, _read, _terms
+from . import _MOST, Ais, Box, Refusal, Symbol, Symbols, _ask, _library, _line, _noted, _read, _terms
 
-Picture = Union[Image.Image, str, "os.PathLike[str]", "numpy.ndarray[Any, Any]"]
+Picture = Union[Image.Image, str, "os.PathLike[str]", bytes, bytearray, memoryview, BinaryIO, "numpy.ndarray[Any, Any]"]
 
 FORMATS = ("JPEG", "PNG", "TIFF", "PPM", "BMP", "GIF", "WEBP")
 """The formats of files that it opens. For some others Pillow runs other programs."""
 
 MOST_PIXELS = 100_000_000
 """The most pixels of a file's picture: a small file may claim more than memory can hold."""
+
+MOST_BYTES = 1_000_000_000
+"""The most bytes of a stream."""
+
+DAMAGES = (OSError, ValueError, SyntaxError, EOFError, IndexError, KeyError, TypeError, struct.error, zlib.error)
+"""What Pillow raises for damaged files."""
 
 _BAND = 64
 """How many rows are made grey at a time."""
@@ -34,18 +43,7 @@ _OF_THE_CALL = (17, 18, 42, 43)
 """The errors of a picture that cannot be read at all. Any other says why none of its rows was read."""
 
 
-class Shown(NamedTuple):
-    """What a picture shows."""
-
-    symbols: List[Symbol]
-    """The symbols, in reading order."""
-    dropped: int
-    """How many more it found, at least."""
-    reason: Optional[Refusal]
-    """If there is no symbol, the error of the row that came furthest; None if no row looked like a symbol."""
-
-
-def read(picture: Picture, year: int, level: Optional[int] = None, ais: Ais = "all") -> Shown:
+def read(picture: Picture, year: int, level: Optional[int] = None, ais: Ais = "all") -> Symbols:
     """What a picture shows; the arguments are those of :func:`noriladle.read_picture`."""
     if level is not None and not 1 <= level <= 255:
         raise ValueError("the level is not 1 to 255")
@@ -55,19 +53,23 @@ def read(picture: Picture, year: int, level: Optional[int] = None, ais: Ais = "a
     columns, rows = min(width, _MOST + 1), min(height, _MOST + 1)
     words = numpy.empty(_library.gs1_picture_room(columns, rows), numpy.uint32)
     told = _ask(_library.gs1_picture, grey.ctypes.data, grey.size, columns, rows, width, level or 0, terms, words.ctypes.data, words.size, room=_ROOM)
+    shown = Symbols()
     if not told.endswith(b"\n"):
         try:
             _line(told)
         except Refusal as reason:
             if reason.number in _OF_THE_CALL:
                 raise
-            return Shown([], 0, reason)
-        return Shown([], 0, None)
+            shown.reason = _noted(reason, "picture")
+        return shown
     *lines, last = told.splitlines()
     word, _, dropped = last.partition(b" ")
-    if word != b"dropped":
-        lines, dropped = [*lines, last], b"0"
-    return Shown([_symbol(line, terms, width, height) for line in lines], int(dropped), None)
+    if word == b"dropped":
+        shown.dropped = int(dropped)
+    else:
+        lines.append(last)
+    shown += [_symbol(line, terms, width, height) for line in lines]
+    return shown
 
 
 def _symbol(line: bytes, terms: int, width: int, height: int) -> Symbol:
@@ -82,9 +84,12 @@ def _symbol(line: bytes, terms: int, width: int, height: int) -> Symbol:
 
 def grey_of(picture: Picture) -> "numpy.ndarray[Any, Any]":
     """The grey values of a picture, rows first; transparent pixels are white."""
+    if isinstance(picture, (bytes, bytearray, memoryview)):
+        return _grey_of_file(io.BytesIO(picture))
     if isinstance(picture, (str, os.PathLike)):
-        with opened(picture) as image:
-            return grey_of(image)
+        return _grey_of_file(picture)
+    if not isinstance(picture, (Image.Image, numpy.ndarray)) and hasattr(picture, "read"):
+        return _grey_of_file(_whole(picture))
     pixels = numpy.asarray(_plain(picture) if isinstance(picture, Image.Image) else picture)
     if pixels.dtype == bool:
         pixels = pixels * numpy.uint8(255)
@@ -101,6 +106,36 @@ def grey_of(picture: Picture) -> "numpy.ndarray[Any, Any]":
     for top in range(0, len(pixels), _BAND):
         grey[top:top + _BAND] = _light(pixels[top:top + _BAND])
     return grey
+
+
+def _grey_of_file(file: Union[str, "os.PathLike[str]", BinaryIO]) -> "numpy.ndarray[Any, Any]":
+    try:
+        image = opened(file)
+        with image:
+            image.load()
+            plain = _plain(image)
+    except (OSError, Refusal):
+        raise
+    except DAMAGES as error:
+        raise OSError("the picture is damaged, or cut") from error
+    return grey_of(plain)
+
+
+def _whole(stream: BinaryIO) -> BinaryIO:
+    """A stream from its place to its end, in memory: Pillow wants one that it can go back in.
+
+    :raises Refusal: 44 ``InputSize`` if it is too long.
+    """
+    data = io.BytesIO()
+    while data.tell() <= MOST_BYTES:
+        piece = stream.read(1 << 20)
+        if not isinstance(piece, (bytes, bytearray, memoryview)):
+            raise TypeError(f"a stream gives bytes, and not {type(piece).__name__}: open it in binary mode")
+        if not piece:
+            data.seek(0)
+            return data
+        data.write(piece)
+    raise Refusal(44, "InputSize")
 
 
 def _light(pixels: "numpy.ndarray[Any, Any]") -> "numpy.ndarray[Any, Any]":

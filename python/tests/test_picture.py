@@ -1,4 +1,5 @@
 """What is read of pictures: labels of known texts, as Pillow turns, blurs and shades them."""
+import io
 import math
 import subprocess
 import sys
@@ -156,13 +157,83 @@ def test_refuses_a_year_and_a_width_out_of_range():
 
 
 @pytest.mark.parametrize("picture, error", [
-    (None, TypeError), (7, TypeError), (b"P4", TypeError), ([[0, 1]], TypeError), (GREY.astype(float), TypeError),
+    (None, TypeError), (7, TypeError), (b"P4", OSError), (b"", OSError), ([[0, 1]], TypeError), (io.StringIO("P4"), TypeError), (GREY.astype(float), TypeError),
     (GREY.astype(numpy.int64), TypeError), (GREY[0], ValueError), (numpy.dstack([GREY] * 2), ValueError), (GREY[None, None], ValueError),
     ("/nowhere/at/all.png", FileNotFoundError),
 ])
 def test_takes_no_picture_but_a_picture(picture, error):
     with pytest.raises(error):
         noriladle.read_picture(picture, 2026)
+
+
+def saved(image, form):
+    data = io.BytesIO()
+    image.save(data, form)
+    return data.getvalue()
+
+
+class Stream:
+    """A stream of an upload: nobody can go back in it, and it gives a few bytes at a time."""
+
+    def __init__(self, data):
+        self._data = io.BytesIO(data)
+
+    def read(self, count=-1):
+        return self._data.read(min(count, 1000))
+
+
+@pytest.mark.parametrize("form", ["PNG", "JPEG", "TIFF", "BMP", "GIF", "WEBP", "PPM"])
+def test_takes_the_bytes_of_a_file_and_a_stream(form):
+    data = saved(Image.fromarray(GREY), form)
+    wanted = noriladle.read_picture(Image.open(io.BytesIO(data)), 2026)
+    assert texts(data) == ["]E0 (01)09501101530003"] and wanted
+    for picture in (data, bytearray(data), memoryview(data), io.BytesIO(data), Stream(data)):
+        assert noriladle.read_picture(picture, 2026) == wanted
+
+
+def test_bytes_and_streams_have_the_limits_of_files(tmp_path, monkeypatch):
+    eps = b"%!PS-Adobe-3.0 EPSF-3.0\n%%BoundingBox: 0 0 100 100\nshowpage\n"
+    large = b"P5 12500 12000 255\n"
+    (tmp_path / "large.pgm").write_bytes(large)
+    for picture in (eps, io.BytesIO(eps), Stream(eps), b"%PDF-1.7\n", saved(Image.fromarray(GREY), "ICO")):
+        with pytest.raises(OSError):
+            noriladle.read_picture(picture, 2026)
+    for picture in (large, io.BytesIO(large), Stream(large), tmp_path / "large.pgm"):
+        with pytest.raises(Refusal) as raised:
+            noriladle.read_picture(picture, 2026)
+        assert (raised.value.number, raised.value.remedy) == (44, "this is too large: split it, or make the picture smaller")
+    monkeypatch.setattr("noriladle.picture.MOST_BYTES", 999)
+    with pytest.raises(Refusal) as raised:
+        noriladle.read_picture(Stream(saved(Image.fromarray(GREY), "BMP")), 2026)
+    assert raised.value.number == 44
+
+
+@pytest.mark.parametrize("form", ["PNG", "JPEG", "TIFF", "BMP", "GIF", "WEBP", "PPM"])
+def test_a_stream_that_ends_is_an_os_error(form, tmp_path):
+    data = saved(Image.fromarray(GREY), form)
+    for end in (len(data) // 2, len(data) // 4, 30, 5):
+        for picture in (data[:end], Stream(data[:end])):
+            with pytest.raises(OSError):
+                noriladle.read_picture(picture, 2026)
+        (tmp_path / "cut").write_bytes(data[:end])
+        with pytest.raises(OSError):
+            noriladle.read_picture(tmp_path / "cut", 2026)
+
+
+def test_says_why_nothing_was_read_and_what_was_dropped():
+    assert (noriladle.read_picture(GREY, 2026).reason, noriladle.read_picture(GREY, 2026).dropped) == (None, 0)
+    blank = noriladle.read_picture(numpy.full((30, 30), 255, numpy.uint8), 2026)
+    assert (blank, blank.reason, blank.dropped) == ([], None, 0)
+    for change, number, name in ((slice(130, 134), 24, "SymbolCheckDigit"), (slice(60, 64), 22, "Modules")):
+        wrong = numpy.asarray(label(Kind.EAN13, "9501101530003", width=400, height=60).convert("L")).copy()
+        wrong[:, change] = 255 - wrong[:, change]
+        seen = noriladle.read_picture(wrong, 2026, level=128)
+        assert seen == [] and (seen.reason.number, seen.reason.name) == (number, name)
+        assert "picture" in seen.reason.remedy or "camera" in seen.reason.remedy
+    one = numpy.full((12, 130), 255, numpy.uint8)
+    one[1:11, 15:110] = numpy.repeat([0 if i % 2 == 0 else 255 for i in range(59)], BARS)
+    many = noriladle.read_picture(numpy.tile(one, (25, 10)), 2026, level=128)
+    assert len(many) == 192 and 1 <= many.dropped <= 58
 
 
 @pytest.mark.parametrize("level", [-1, 0, 256])

@@ -227,5 +227,9 @@ test("a label is drawn, and read as a picture, turned too", () => {
   assert.equal(gs1.readPicture({ width, height, data: upright }, 2026, { level: 99, ais: "profile" }).length, 1);
   assert.equal(gs1.readPicture({ width: height, height: width, data: turned }, 2026, { level: 99 }).length, 0);
   assert.throws(() => gs1.readPicture({ width, height, data: upright }, 2026, { level: 256 }), RangeError);
+  const read = gs1.readPicture({ width, height, data: upright }, 2026), part = gs1.readPicture({ width: 200, height, data: upright.slice(0, 800 * height) }, 2026, { level: 99 });
+  assert.deepEqual([read.dropped, read.reason, part.length, part.dropped], [0, undefined, 0, 0]);
+  assert.ok(part.reason instanceof Refusal && part.reason.number > 18 && part.reason.remedy.length > 9, String(part.reason));
+  assert.equal(gs1.readPicture({ width: 8, height: 8, data: new Uint8ClampedArray(256).fill(255) }, 2026).reason, undefined);
   assert.throws(() => gs1.readPicture({ width, height, data: upright }, 1900), { number: 42 });
 });

@@ -14,14 +14,12 @@ import io
 import json
 import re
 import shutil
-import struct
 import sys
 import warnings
-import zlib
 from typing import TYPE_CHECKING, Any, Iterator, List, NamedTuple, Optional, Tuple
 
 from .. import Refusal, Symbol
-from .._shop import count_text, said, told
+from .._shop import count_text, told
 from . import REFUSED, RIGHT, WRONG_WORDS, Progress, add_ais, add_year, data_of, tell
 
 if TYPE_CHECKING:
@@ -35,8 +33,6 @@ _PATIENCE = 60
 _MOST_PAGES, _MOST_BYTES = 10_000, 1_000_000_000
 _ADVICE = {13: "characterUnclear", 21: "leaveLight", 22: "comeNearer", 23: "comeNearer", 24: "digitUnclear"}
 """What to do about a picture whose furthest row has this error: blur and small bars look like damage in a row."""
-_DAMAGES = (OSError, ValueError, SyntaxError, EOFError, IndexError, KeyError, TypeError, struct.error, zlib.error)
-"""What Pillow raises for damaged files."""
 _PHOTOS_OF_TELEPHONES = (b"ftypheic", b"ftypheix", b"ftyphevc", b"ftypmif1", b"ftypmsf1", b"ftypavif")
 
 
@@ -78,12 +74,12 @@ def run(words: argparse.Namespace) -> int:
                 is_later = True
                 shown = picture.read(page.image, words.year, ais=words.ais)
                 progress.end()
-                for symbol in shown.symbols:
+                for symbol in shown:
                     print(_line(page, symbol, words.json), flush=sys.stdout.isatty())
                 if shown.dropped:
                     tell(f"{page}: {told('moreSymbols', shown.dropped)}")
                     status = max(status, REFUSED)
-                if not shown.symbols:
+                if not shown:
                     tell(f"{page}: {told('noSymbol', _why(shown.reason))}")
                     status = max(status, REFUSED)
         except Refusal as refusal:
@@ -101,7 +97,7 @@ def _why(reason: Optional[Refusal]) -> str:
     if reason is None:
         return f": {told('kindsRead')}"
     advice = _ADVICE.get(reason.number)
-    return f": {reason}: {told(advice) if advice else said(reason.number, '')}"
+    return f": {reason}: {told(advice) if advice else reason.remedy}"
 
 
 def _line(page: Page, symbol: Symbol, as_json: bool) -> str:
@@ -140,7 +136,7 @@ def _pages_of(name: str) -> Iterator[Page]:
 
 def _pictures(name: str, data: bytes) -> Iterator[Page]:
     """The picture of a file, or the pages of a TIFF."""
-    from ..picture import opened
+    from ..picture import DAMAGES, opened
 
     try:
         with opened(io.BytesIO(data)) as image:
@@ -151,14 +147,14 @@ def _pictures(name: str, data: bytes) -> Iterator[Page]:
                     yield Page(name, number + 1 if pages > 1 else None, frame)
     except Refusal:
         raise
-    except _DAMAGES as error:
+    except DAMAGES as error:
         is_known = type(error).__name__ != "UnidentifiedImageError"
         raise Unopened(told("damagedPicture" if is_known else "noPicture")) from error
 
 
 def _pdf_pages(name: str, data: bytes) -> Iterator[Page]:
     """The pages of a PDF file, as pdftoppm draws them."""
-    from ..picture import MOST_PIXELS, opened
+    from ..picture import DAMAGES, MOST_PIXELS, opened
 
     if not (shutil.which("pdftoppm") and shutil.which("pdfinfo")):
         raise Unopened(told("noPoppler"))
@@ -169,7 +165,7 @@ def _pdf_pages(name: str, data: bytes) -> Iterator[Page]:
         try:
             with opened(io.BytesIO(drawn)) as image:
                 yield Page(name, number, image)
-        except _DAMAGES as error:
+        except DAMAGES as error:
             raise Unopened(told("noPage", number)) from error
 
 
