@@ -64,7 +64,7 @@ function isRead(ask) {
 
 // What a call of this name was asked about a text. `ask` asks it about another.
 const askedOf = (call, text, ask, others) =>
-  ({ call, text: typeof text === "string" ? text : new TextDecoder().decode(text), reads: (it) => isRead(() => ask(it)), ...others });
+  ({ call, text: typeof text === "string" ? text : new TextDecoder().decode(bytesOf(text)), reads: (it) => isRead(() => ask(it)), ...others });
 
 const refusalOf = ({ fault, place }) => new Refusal(fault, Calls.faults[fault], place);
 
@@ -74,6 +74,7 @@ const u16 = (number) => (Number.isInteger(number) && number >= 0 && number <= MO
 // Year and AIs as the library's one number: 0, which it refuses, for a year out of range.
 function termsOf(year, { ais = "all" } = {}) {
   if (ais !== "all" && ais !== "profile") throw new RangeError(`ais is "all" or "profile", and not ${ais}`);
+  if (typeof year !== "number") throw new TypeError(`the year is a number, such as 2026, and not ${nameOf(year)}`);
   if (!Number.isInteger(year) || year < 1951 || year > 2149) return 0;
   return ais === "all" ? Calls.everyAi | year : year;
 }
@@ -135,7 +136,7 @@ class Gs1 {
   }
 
   #find(widths, year, options) {
-    const row = Array.from(widths);
+    const row = widthsOf(widths);
     return this.#askRow((...words) => this.#ask("gs1_c_find", ...words), row, termsOf(year, options)).split("\n").slice(0, -1).map((line) => {
       const [first, count] = line.split(" ", 2).map(Number);
       return { first, count, answer: this.#row(row.slice(first, first + count), year, options) };
@@ -155,6 +156,7 @@ class Gs1 {
 
   compose(elements, year = new Date().getFullYear()) {
     const pairs = Array.from(elements, (it) => (Array.isArray(it) ? { ai: it[0], value: it[1] } : it));
+    if (!pairs.every((it) => typeof it?.ai === "string" && typeof it?.value === "string")) throw new TypeError("an element has an AI and a value, both strings");
     const text = pairs.map(({ ai, value }, i) => {
       noting({ call: "compose", ai, text: value }, () => this.#checkPair(ai, value, year, i));
       return `${i && needsSeparator(pairs[i - 1].ai) ? "\x1d" : ""}${ai}${value}`;
@@ -185,7 +187,7 @@ class Gs1 {
     return { text: under, quietLeft: Number(left), quietRight: Number(right), widths: Array.from(widths, Number) };
   }
 
-  drawLabel(kind, text, { year, module = 1, width, height, ais }) {
+  drawLabel(kind, text, { year, module = 1, width, height, ais } = {}) {
     const dots = [module, width, height].map(u16);
     return noting(this.#askedOfLabel(kind, text, year, { ais }), () => {
       const image = this.#calls.ask(this.#calls.calls.gs1_c_label, Calls.kinds.indexOf(kind), ...this.#put(labelBytes(kind, text)), termsOf(year, { ais }), ...dots);
@@ -199,7 +201,7 @@ class Gs1 {
 
   #picture(pixels, year, { level = 0, ais } = {}) {
     if (!Number.isInteger(level) || level < 0 || level > 255) throw new RangeError("the level is not 1 to 255");
-    const terms = termsOf(year, { ais }), { symbols, dropped, reason } = symbolsShown(this.#calls.picture(greyOf(pixels), level, terms));
+    const terms = termsOf(year, { ais }), { symbols, dropped, reason } = symbolsShown(this.#calls.picture(greyOf(pixelsOf(pixels)), level, terms));
     const refusal = this.#refusalIn(reason);
     if (refusal && OF_THE_CALL.includes(refusal.number)) throw refusal;
     if (refusal) ASKED.set(refusal, { call: "picture" });
@@ -234,7 +236,7 @@ class Gs1 {
   // Asks about the widths of a row. A width above 65,535 is no u16, so it is refused here, but after the errors that come first: the year and
   // the number of runs.
   #askRow(ask, widths, terms) {
-    const row = Array.from(widths);
+    const row = widthsOf(widths);
     if (row.length > MOST_WIDTHS) throw new RangeError(`a row has at most ${MOST_WIDTHS} runs`);
     if (row.some((width) => !Number.isInteger(width) || width < 0)) throw new RangeError("a width is a whole number from 0");
     this.#calls.words.set(row.map((width) => Math.min(width, MOST_U16)));
@@ -282,7 +284,30 @@ class Gs1 {
 }
 
 const answerOf = ({ identifier, symbol, elements }) => new Answer(identifier || undefined, symbol, elements);
-const bytesOf = (text) => (typeof text === "string" ? new TextEncoder().encode(text) : text);
+
+const nameOf = (it) => it === null ? "null" : typeof it === "object" ? it.constructor?.name ?? "object" : typeof it;
+
+function bytesOf(text) {
+  if (typeof text === "string") return new TextEncoder().encode(text);
+  if (ArrayBuffer.isView(text) && text.BYTES_PER_ELEMENT === 1) return text;
+  throw new TypeError(`a text is a string or a Uint8Array, and not ${nameOf(text)}`);
+}
+
+// The widths of a row as an array.
+function widthsOf(widths) {
+  if (typeof widths !== "object" || !Number.isInteger(widths?.length)) throw new TypeError(`widths are an array of numbers, and not ${nameOf(widths)}`);
+  return Array.from(widths);
+}
+
+// The pixels of a picture, if they are as ImageData has them.
+function pixelsOf(pixels) {
+  const { width, height, data } = pixels ?? {};
+  if (!ArrayBuffer.isView(data) || data.BYTES_PER_ELEMENT !== 1) throw new TypeError("a picture has a width, a height, and its data in four bytes a pixel");
+  if (![width, height].every((side) => Number.isInteger(side) && side >= 0) || data.length !== 4 * width * height) {
+    throw new RangeError(`a picture of ${width} by ${height} pixels has four bytes for each, and not ${data.length} bytes`);
+  }
+  return data.byteOffset % 4 ? { width, height, data: data.slice() } : pixels;
+}
 
 // The text of a label as the library takes it: of an element string without a separator in front, and each as byte 29. The digits of a GTIN
 // may be one too, so they are refused as such.

@@ -25,6 +25,8 @@ NO_INPUT, NO_FILE, NO_ROOM = 64, 69, 73
 """The statuses of the scripts: no such name, no file, no room or right to put it there."""
 _LOWER = ("--enable-memory64", "--memory64-lowering", "--enable-bulk-memory", "--enable-sign-ext", "--enable-mutable-globals")
 """How wasm-opt makes a module with addresses of 32 bits. The other features are those that the module already uses."""
+_TEXTS = ("--enable-bulk-memory", "--enable-sign-ext", "--enable-mutable-globals", "--graph-file", str(ROOT / "package" / "texts.graph.json"))
+"""How wasm-metadce keeps what the calls about texts need of a module."""
 _BACK = "git checkout -- release brings it back"
 
 
@@ -90,8 +92,8 @@ def has_kit() -> bool:
 
 
 def file_of(name: str) -> bytes:
-    """A file of these sources: TARGET/gs1_hub, TARGET/libgs1.a or TARGET/libgs1.so with x86_64 or aarch64 as the target, x86_64_v2/gs1_hub, or gs1_c.wasm with wasm64
-    or wasm32. It comes from release/, if that is of these sources. Otherwise the kit builds it.
+    """A file of these sources: TARGET/gs1_hub, TARGET/libgs1.a or TARGET/libgs1.so with x86_64 or aarch64 as the target, x86_64_v2/gs1_hub, gs1_c.wasm with wasm64 or
+    wasm32, or wasm32/gs1_texts.wasm. It comes from release/, if that is of these sources. Otherwise the kit builds it.
 
     :raises NoFile: there is none.
     """
@@ -115,6 +117,8 @@ def built(name: str) -> bytes:
     crate, made = {"gs1_hub": ("gs1_hub", "gs1_hub"), "gs1_c.wasm": ("gs1_c", "gs1_c.wasm")}.get(file, ("gs1_c", "libgs1_c.a"))
     if name == "wasm32/gs1_c.wasm":
         return lowered(built("wasm64/gs1_c.wasm"))
+    if name == "wasm32/gs1_texts.wasm":
+        return texts_only(built("wasm32/gs1_c.wasm"))
     if not re.fullmatch(r"(x86_64|aarch64)/(gs1_hub|libgs1\.a|libgs1\.so)|x86_64_v2/gs1_hub|wasm64/gs1_c\.wasm", name):
         raise NoFile(f"there is no {name}", NO_INPUT)
     _run("package/prove", crate, target)
@@ -137,12 +141,24 @@ def lowered(module: bytes) -> bytes:
 
     :raises NoFile: there is no wasm-opt.
     """
-    if not shutil.which("wasm-opt"):
-        raise NoFile("there is no wasm-opt: apt-get install binaryen")
+    return _changed(module, "wasm-opt", *_LOWER)
+
+
+def texts_only(module: bytes) -> bytes:
+    """What the calls about texts need of a module of WebAssembly.
+
+    :raises NoFile: there is no wasm-metadce.
+    """
+    return _changed(module, "wasm-metadce", *_TEXTS)
+
+
+def _changed(module: bytes, tool: str, *words: str) -> bytes:
+    if not shutil.which(tool):
+        raise NoFile(f"there is no {tool}: apt-get install binaryen")
     with tempfile.TemporaryDirectory() as folder:
-        before, after = Path(folder, "64.wasm"), Path(folder, "32.wasm")
+        before, after = Path(folder, "before.wasm"), Path(folder, "after.wasm")
         before.write_bytes(module)
-        subprocess.run(["wasm-opt", *_LOWER, str(before), "-o", str(after)], check=True, stdout=subprocess.DEVNULL)
+        subprocess.run([tool, *words, str(before), "-o", str(after)], check=True, stdout=subprocess.DEVNULL)
         return after.read_bytes()
 
 

@@ -2,7 +2,10 @@
 from __future__ import annotations
 
 import base64
+import gzip
 import io
+import json
+import re
 import runpy
 import tempfile
 import zipfile
@@ -105,14 +108,27 @@ def npm_files() -> Files:
     :raises NoFile: there is no module of these sources.
     """
     npm, page = ROOT / "npm", ROOT / "page"
-    own = {name: (npm / name).read_bytes() for name in ("index.js", "advice.js", "elements.js", "index.d.ts", "README.md")}
+    own = {name: (npm / name).read_bytes() for name in ("index.js", "advice.js", "elements.js", "texts.js", "detector.js", "reader.js", "worker.js", "index.d.ts", "texts.d.ts", "detector.d.ts", "reader.d.ts",
+                                                           "README.md")}
     scripts = "".join((page / f"{name}.js").read_text("utf-8").replace('"use strict";\n', "", 1) for name in ("gs1", "picture", "ais", "values", "mending", "typed"))
     module, version = _constant("MODULE", file_of("wasm32/gs1_c.wasm")), f'"{VERSION} (sources {sum_of_sources()[:12]})"'
-    return {**own, **licences(), "remedies.js": remedies("js"),
+    return {**own, **licences(), **_texts_only(version), "remedies.js": remedies("js"),
             "package.json": (npm / "package.json").read_text("utf-8").replace("@VERSION@", VERSION).encode(),
             "module.js": f"// The module of crates/gs1_c, with addresses of 32 bits. Made by npm/build.\nexport {module}export const VERSION = {version};\n".encode(),
             "page.js": f"// The scripts of the page that ask the module, make the grey values of pictures, and say what values mean and what to do about errors. Made by npm/build.\n{scripts}"
                        f"{_NPM_EXPORT}".encode()}
+
+
+def _texts_only(version: str) -> Files:
+    """The module of the entry for texts, packed, and the names of the errors and symbols that it answers."""
+    script = runpy.run_path(str(ROOT / "tables" / "remedies"))
+    rows = script["rows_of"]((ROOT / "tables" / "remedies.tsv").read_text("utf-8"))
+    faults = {row.number: row.name for row in script["firsts"](rows) if row.number in (*range(1, 12), 40, 42)}
+    symbols = re.search(r"static symbols = (\[.*\]);", (ROOT / "page" / "gs1.js").read_text("utf-8"))
+    assert symbols
+    module = _constant("MODULE", gzip.compress(file_of("wasm32/gs1_texts.wasm"), 9, mtime=0))
+    return {"texts.module.js": f"// What texts need of the module, packed by gzip. Made by npm/build.\nexport {module}export const VERSION = {version};\n"
+                               f"export const FAULTS = {json.dumps(faults)};\nexport const SYMBOLS = {symbols[1]};\n".encode()}
 
 
 _NPM_EXPORT = """\

@@ -1,7 +1,8 @@
 """Reads GS1 barcodes, checks numbers and element strings, and draws labels.
 
 Each call of the library underneath is proved against the definitions of the GS1 standards. An error is raised as a
-:class:`Refusal`, with its number and its name.
+:class:`Refusal`, with its number and its name. ``year`` is the reference year by which years of two digits are read: this
+year, unless you give another.
 
     >>> read_gtin("9501101530003")
     '09501101530003'
@@ -477,9 +478,9 @@ def _u16(number: int) -> int:
     return number if 0 <= number <= _MOST else 0
 
 
-def _terms(year: int, ais: Ais) -> int:
-    """Year and AIs as the library's one number; for a year out of range 0, which it refuses."""
-    year = operator.index(year)
+def _terms(year: Optional[int], ais: Ais) -> int:
+    """Year and AIs as the library's one number; this year unless one is given, and for one out of range 0, which it refuses."""
+    year = datetime.date.today().year if year is None else operator.index(year)
     if ais not in ("all", "profile"):
         raise ValueError(f"ais is 'all' or 'profile', and not {ais!r}")
     if not 1951 <= year <= 2149:
@@ -549,7 +550,7 @@ def _widths(dots: Union[bytes, bytearray, memoryview], width: int) -> List[int]:
 
 
 @_about("row")
-def read_row(widths: Sequence[int], year: int, *, ais: Ais = "all") -> Answer:
+def read_row(widths: Sequence[int], year: Optional[int] = None, *, ais: Ais = "all") -> Answer:
     """What a scanned row says. ``widths`` are those of its light and dark bars in pixels, starting and ending with light.
 
     The row may be scanned in either direction. Dates are read by the reference year, 1951 to 2149.
@@ -561,7 +562,7 @@ def read_row(widths: Sequence[int], year: int, *, ais: Ais = "all") -> Answer:
 
 
 @_about("row")
-def find(widths: Sequence[int], year: int, *, ais: Ais = "all") -> List[Found]:
+def find(widths: Sequence[int], year: Optional[int] = None, *, ais: Ais = "all") -> List[Found]:
     """Every symbol of a scanned row, from left to right, whatever stands beside or between them.
 
     The widths are as for :func:`read_row`. Each part of the row that begins and ends with light and can be read as a
@@ -575,7 +576,7 @@ def find(widths: Sequence[int], year: int, *, ais: Ais = "all") -> List[Found]:
 
 
 @_about("picture")
-def read_picture(picture: Picture, year: int, *, level: Optional[int] = None, ais: Ais = "all") -> Symbols:
+def read_picture(picture: Picture, year: Optional[int] = None, *, level: Optional[int] = None, ais: Ais = "all") -> Symbols:
     """Every symbol of a picture, in the order of reading: line by line, and from left to right.
 
     The picture is an image of Pillow's, a file (its first image), or an array with a row of grey, RGB or RGBA values for
@@ -602,7 +603,7 @@ def read_picture(picture: Picture, year: int, *, level: Optional[int] = None, ai
 
 
 @_about("row")
-def read_dots(dots: Union[bytes, bytearray, memoryview], width: int, year: int, *, ais: Ais = "all") -> Answer:
+def read_dots(dots: Union[bytes, bytearray, memoryview], width: int, year: Optional[int] = None, *, ais: Ais = "all") -> Answer:
     """What a row of ``width`` dots says, packed eight in a byte as in a PBM image.
 
     The first dot of a byte is its high bit, and 1 is dark; bits after the last dot do not matter. Dates are read by
@@ -616,7 +617,7 @@ def read_dots(dots: Union[bytes, bytearray, memoryview], width: int, year: int, 
 
 
 @_about("row")
-def find_dots(dots: Union[bytes, bytearray, memoryview], width: int, year: int, *, ais: Ais = "all") -> List[Found]:
+def find_dots(dots: Union[bytes, bytearray, memoryview], width: int, year: Optional[int] = None, *, ais: Ais = "all") -> List[Found]:
     """Every symbol of a row of ``width`` dots, packed as for :func:`read_dots`: what :func:`find` finds in the widths of
     its light and dark runs.
 
@@ -629,7 +630,7 @@ def find_dots(dots: Union[bytes, bytearray, memoryview], width: int, year: int, 
     return [Found(first, count, read_row(widths[first:first + count], year, ais=ais)) for first, count in places]
 
 
-def read_scan(text: Union[str, bytes], year: int, *, ais: Ais = "all") -> Answer:
+def read_scan(text: Union[str, bytes], year: Optional[int] = None, *, ais: Ais = "all") -> Answer:
     """What a text from a scanner says. It begins with a symbology identifier; what the symbol says follows:
 
     - ``]E0``: the 12 or 13 digits of a GTIN, or the 8 of a UPC-E; ``]E4``: 8 digits; ``]I1``: 14
@@ -687,7 +688,7 @@ def check_digit(text: Union[str, bytes]) -> int:
         raise _noted(refusal, "check_digit", text)
 
 
-def read_elements(text: Union[str, bytes], year: int, *, ais: Ais = "all") -> str:
+def read_elements(text: Union[str, bytes], year: Optional[int] = None, *, ais: Ais = "all") -> str:
     """The elements of an element string, as ``(10)AB(17)261231``. The separator is ``"\\x1d"``.
 
     :raises Refusal: its first fault, 4 ``Empty`` to 11 ``TooLong``; 42 ``Words`` if the year is out of range.
@@ -699,7 +700,7 @@ def read_elements(text: Union[str, bytes], year: int, *, ais: Ais = "all") -> st
         raise _with_before(_noted(refusal, "parse_elements", text, year, ais), string, terms)
 
 
-def parse_elements(text: Union[str, bytes], year: int, *, ais: Ais = "all") -> Tuple[Element, ...]:
+def parse_elements(text: Union[str, bytes], year: Optional[int] = None, *, ais: Ais = "all") -> Tuple[Element, ...]:
     """The elements of an element string. The separator is ``"\\x1d"``.
 
     :raises Refusal: as :func:`read_elements`.
@@ -725,28 +726,25 @@ def compose(elements: Iterable[Union[Element, Tuple[str, str]]], year: Optional[
         >>> compose([("01", "09501101530003"), ("10", "AB"), ("17", "261231")], year=2026)
         '010950110153000310AB\\x1d17261231'
 
-    The year is this year unless you give one.
-
     :raises Refusal: they are no elements, 4 to 11, with the index of the element as the place; 42 ``Words`` if the year
         is out of range.
     """
     pairs = [(it.ai, it.value) if isinstance(it, Element) else (it[0], it[1]) for it in elements]
-    reference = datetime.date.today().year if year is None else year
     text = ""
     for at, (ai, value) in enumerate(pairs):
         try:
-            _check_pair(ai, value, reference, at)
+            _check_pair(ai, value, year, at)
         except Refusal as refusal:
-            raise _noted(refusal, "compose", value, reference, "all", ai)
+            raise _noted(refusal, "compose", value, year, "all", ai)
         text += ("\x1d" if at > 0 and _values.needs_separator(pairs[at - 1][0]) else "") + ai + value
     try:
-        parse_elements(text, reference)
+        parse_elements(text, year)
     except Refusal as refusal:
         raise _noted(refusal, "compose")
     return text
 
 
-def _check_pair(ai: str, value: str, year: int, at: int) -> None:
+def _check_pair(ai: str, value: str, year: Optional[int], at: int) -> None:
     """Raises the error of a pair that is no element; ``index`` is its place."""
     more = Refusal(7, "ValueCharacter", at) if "\x1d" in value else Refusal(6, "ValueLength", at)
     try:
@@ -797,7 +795,7 @@ class LabelSymbol(NamedTuple):
     """The widths of bars and spaces, starting and ending with a bar."""
 
 
-def label_symbol(kind: Union[Kind, str], text: Union[str, bytes], year: int, *, ais: Ais = "all") -> LabelSymbol:
+def label_symbol(kind: Union[Kind, str], text: Union[str, bytes], year: Optional[int] = None, *, ais: Ais = "all") -> LabelSymbol:
     """The symbol of a label, in modules. The kind may be a name, such as ``"ean13"``.
 
         >>> symbol = label_symbol("upce", "00012345000065", year=2026)
@@ -853,7 +851,7 @@ def _kind(kind: Union[Kind, str]) -> Kind:
 
 
 def draw_label(
-    kind: Union[Kind, str], text: Union[str, bytes], year: int, *, module: int = 2, width: int = 480, height: int = 120,
+    kind: Union[Kind, str], text: Union[str, bytes], year: Optional[int] = None, *, module: int = 2, width: int = 480, height: int = 120,
     ais: Ais = "all",
 ) -> bytes:
     """A label as the bytes of a PBM image, of ``width`` by ``height`` dots, its modules ``module`` dots wide.

@@ -31,7 +31,7 @@ class Asked(NamedTuple):
     call: str
     """The call's name, or ``row`` and ``picture`` for all of these."""
     text: str = ""
-    year: int = 0
+    year: Optional[int] = None
     ais: Ais = "all"
     kind: str = ""
     """The kind of a label, or the Application Identifier of a pair."""

@@ -2,7 +2,7 @@
 from __future__ import annotations
 
 import re
-from typing import List, Tuple
+from typing import List, Optional, Tuple
 
 from . import Ais, Answer, Refusal, _is_gtin, _noted, read_gtin, read_scan
 
@@ -18,7 +18,7 @@ ROUNDED = re.compile(r"\d([.,]\d+)?E\+?\d+", re.IGNORECASE)
 _WHITE = "".join(sign for sign in map(chr, range(0x3001)) if sign.isspace() and sign != "\x1d")
 
 
-def read_text(text: str, year: int, ais: Ais = "all") -> Answer:
+def read_text(text: str, year: Optional[int], ais: Ais = "all") -> Answer:
     """What a text says: an element string with ``(01)`` or ``[01]`` around each Application Identifier, or with ``^`` or
     byte 29 in it; what a scanner sends, which begins with ``]``; a GS1 Digital Link; or else a number.
 
@@ -41,7 +41,7 @@ def read_text(text: str, year: int, ais: Ais = "all") -> Answer:
     return read_scan(f"^01{read_gtin(digits)}", year, ais=ais)
 
 
-def _read_printed(pairs: List[Tuple[str, str]], year: int, ais: Ais) -> Answer:
+def _read_printed(pairs: List[Tuple[str, str]], year: Optional[int], ais: Ais) -> Answer:
     """What Application Identifiers with their values say: these elements, and no others that the same characters may be."""
     starts = [sum(len(ai) + len(value) + 1 for ai, value in pairs[:at]) for at in range(len(pairs))]
     try:

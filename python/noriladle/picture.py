@@ -43,7 +43,7 @@ _OF_THE_CALL = (17, 18, 42, 43)
 """The errors of a picture that cannot be read at all. Any other says why none of its rows was read."""
 
 
-def read(picture: Picture, year: int, level: Optional[int] = None, ais: Ais = "all") -> Symbols:
+def read(picture: Picture, year: Optional[int] = None, level: Optional[int] = None, ais: Ais = "all") -> Symbols:
     """What a picture shows; the arguments are those of :func:`noriladle.read_picture`."""
     if level is not None and not 1 <= level <= 255:
         raise ValueError("the level is not 1 to 255")

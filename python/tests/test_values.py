@@ -164,3 +164,28 @@ def test_associations(ais, told):
 ])
 def test_doubts(ai, value, told):
     assert [str(it) for it in doubts([Element(ai, value)])] == told
+
+
+def test_the_year_is_this_year_unless_one_is_given():
+    import datetime
+    import noriladle
+    year = datetime.date.today().year
+    text = f"17{(year + 30) % 100:02}1231"
+    for answer in (noriladle.read_scan(f"]C1{text}"), noriladle.read_scan(f"]C1{text}", year), noriladle.read_scan(f"]C1{text}", None)):
+        assert answer["17"].date == datetime.date(year + 30, 12, 31)
+    assert noriladle.parse_elements(text)[0].date == datetime.date(year + 30, 12, 31)
+    symbol = noriladle.label_symbol("gs1128", text)
+    row = [symbol.quiet_left, *symbol.widths, symbol.quiet_right]
+    assert noriladle.read_row(row) == noriladle.find(row)[0].answer == noriladle.read_row(row, year)
+    assert noriladle.draw_label("gs1128", text) == noriladle.draw_label("gs1128", text, year)
+    assert noriladle.read_elements(text) == f"(17){text[2:]}"
+    with pytest.raises(TypeError):
+        noriladle.read_scan(f"]C1{text}", "2026")
+
+
+def test_a_missing_extra_is_named():
+    import subprocess
+    import sys
+    script = "import sys; sys.modules['reportlab'] = None\ntry:\n    import noriladle.labels._pdf\nexcept ImportError as error:\n    print(error)"
+    told = subprocess.run([sys.executable, "-c", script], capture_output=True, text=True, check=True)
+    assert told.stdout == "labels as PDF need reportlab: pip install 'noriladle[labels]'\n"

@@ -4,8 +4,11 @@ import fs from "node:fs";
 import { createRequire } from "node:module";
 import path from "node:path";
 import test from "node:test";
+import { fileURLToPath } from "node:url";
 import { inspect } from "node:util";
+import { gzipSync } from "node:zlib";
 import { associations, doubts, load, Refusal, VERSION } from "noriladle";
+import { load as loadTexts } from "noriladle/texts";
 
 const gs1 = await load();
 const linesOf = (name) => fs.readFileSync(path.join(process.env.GIVEN, name), "latin1").split("\n").slice(0, -1);
@@ -151,6 +154,80 @@ test("a GTIN is no element string unless it has a mark", () => {
     "is this a GTIN, or are these elements? write 0109501101530003 or ^9501101530003");
   for (const text of ["^9501101530003", "\x1d9501101530003"]) assert.equal(gs1.labelSymbol("gs1128", text, 2026).text, "(95)01101530003");
   assert.equal(gs1.labelSymbol("gs1128", "10AB^17261231", 2026).text, "(10)AB(17)261231");
+});
+
+test("arguments of another type", () => {
+  const pixels = { width: 2, height: 2, data: new Uint8ClampedArray(16) };
+  for (const [ask, message] of [
+    [() => gs1.readGtin(9501101530003), "a text is a string or a Uint8Array, and not number"], [() => gs1.readScan(null, 2026), "a text is a string or a Uint8Array, and not null"],
+    [() => gs1.checkDigit(), "a text is a string or a Uint8Array, and not undefined"], [() => gs1.parseElements(["10AB"], 2026), "a text is a string or a Uint8Array, and not Array"],
+    [() => gs1.readScan("]C110AB"), "the year is a number, such as 2026, and not undefined"], [() => gs1.readScan("]C110AB", "2026"), "the year is a number, such as 2026, and not string"],
+    [() => gs1.readRow(5, 2026), "widths are an array of numbers, and not number"], [() => gs1.find("1 2 3", 2026), "widths are an array of numbers, and not string"],
+    [() => gs1.compose([["10", 5]]), "an element has an AI and a value, both strings"], [() => gs1.compose([null]), "an element has an AI and a value, both strings"],
+    [() => gs1.drawLabel("ean13", "9501101530003"), "the year is a number, such as 2026, and not undefined"], [() => gs1.labelSymbol("ean13", 5, 2026), "a text is a string or a Uint8Array, and not number"],
+    [() => gs1.readPicture(undefined, 2026), "a picture has a width, a height, and its data in four bytes a pixel"],
+  ]) assert.throws(ask, { name: "TypeError", message });
+  for (const wrong of [{ width: 3 }, { height: -2 }, { data: new Uint8Array(15) }]) assert.throws(() => gs1.readPicture({ ...pixels, ...wrong }, 2026), RangeError);
+  assert.equal(gs1.readPicture({ width: 2, height: 2, data: new Uint8Array(new ArrayBuffer(17), 1, 16) }, 2026).length, 0);
+});
+
+test("the entry for texts answers as the whole package, and is small", async () => {
+  const texts = await loadTexts();
+  const said = (ask) => {
+    try {
+      const { identifier, symbol, gtin, text, elements } = ask();
+      return JSON.stringify([identifier, symbol, gtin, text, elements.map(({ ai, value, date, until, time }) => ({ ai, value, date, until, time }))]);
+    } catch (error) {
+      return error.message;
+    }
+  };
+  const asked = linesOf("texts").map((record) => record.slice(record.indexOf(",") + 1)).flatMap((text) => [text, `]C1${text}`, `^${text}`]);
+  let read = 0;
+  for (const text of [...asked, "]E001234565", "https://id.gs1.org/01/09501101530003?17=261231", "]C17007261231270131^70032612312359", "]E39501101530003"]) {
+    for (const options of [undefined, { ais: "profile" }]) {
+      const wanted = said(() => gs1.readScan(text, 2026, options));
+      assert.equal(said(() => texts.readScan(text, 2026, options)), wanted, text);
+      read += !wanted.startsWith("refused");
+    }
+  }
+  assert.ok(read > 1000, String(read));
+  assert.equal(texts.readGtin("96385074"), "00000096385074");
+  assert.deepEqual(texts.parseElements("10AB\x1d17261231", 2026), [{ ai: "10", value: "AB" }, { ai: "17", value: "261231", date: "2026-12-31" }]);
+  assert.throws(() => texts.readScan("]C110AB", 1900), { number: 42 });
+  assert.throws(() => texts.readScan(5, 2026), TypeError);
+  const folder = path.dirname(fileURLToPath(import.meta.resolve("noriladle/texts")));
+  const size = ["texts.js", "texts.module.js"].reduce((sum, name) => sum + gzipSync(fs.readFileSync(path.join(folder, name)), { level: 9 }).length, 0);
+  assert.ok(size <= 22_000, `${size} bytes`);
+});
+
+test("the sizes that the README names", () => {
+  const folder = path.dirname(fileURLToPath(import.meta.resolve("noriladle"))), told = fs.readFileSync(path.join(folder, "README.md"), "utf8");
+  for (const [, name, kilobytes] of told.matchAll(/^\| `noriladle(\/texts)?` \| [^|]*\| (\d+) kB \|$/gm)) {
+    const files = name ? ["texts.js", "texts.module.js"] : ["index.js", "advice.js", "elements.js", "module.js", "page.js", "remedies.js"];
+    const size = files.reduce((sum, file) => sum + gzipSync(fs.readFileSync(path.join(folder, file)), { level: 9 }).length, 0);
+    assert.ok(Math.abs(size / 1000 - kilobytes) < 1 + kilobytes / 50, `${files[0]}: ${size} bytes, not ${kilobytes} kB`);
+  }
+  assert.equal(told.match(/^\| `noriladle/gm).length, 2);
+});
+
+test("a worker answers a reader", async () => {
+  const [{ answer }, { Reader }] = [await import("noriladle/worker"), await import("noriladle/reader")];
+  const worker = new EventTarget(), ended = [];
+  worker.postMessage = async (message) => {
+    const data = structuredClone(await answer(structuredClone(message)));
+    worker.dispatchEvent(Object.assign(new Event("message"), { data }));
+  };
+  worker.terminate = () => ended.push(1);
+  const reader = new Reader(worker);
+  assert.equal((await reader.readScan("]C110AB^17261231", 2026)).text, "(10)AB(17)261231");
+  await assert.rejects(reader.readScan("]E39501101530003", 2026), { number: 40, fault: "Kind", message: "refused 40 Kind", remedy: /switch supplementals off/ });
+  await assert.rejects(reader.readScan(5, 2026), /a text is a string/);
+  const { symbols, dropped, reason } = await reader.readPicture({ width: 2, height: 2, data: new Uint8ClampedArray(16) }, 2026);
+  assert.deepEqual([symbols, dropped, reason], [[], 0, undefined]);
+  const waiting = reader.readScan("]C110AB", 2026);
+  reader.close();
+  await assert.rejects(waiting, /closed/);
+  assert.equal(ended.length, 1);
 });
 
 test("what no call can take", () => {

@@ -1,9 +1,12 @@
 // What the types let a caller write, and what they refuse.
-import { associations, doubts, load, Refusal, type Answer, type Element, type LabelSymbol, type SymbolKind } from "noriladle";
+import { associations, doubts, load, Refusal, type Answer, type Gs1Element, type Gs1Symbols, type LabelSymbol, type SymbolKind } from "noriladle";
+import { BarcodeDetector, type DetectedBarcode } from "noriladle/detector";
+import { Reader } from "noriladle/reader";
+import { load as loadTexts, type TextAnswer } from "noriladle/texts";
 
 const gs1 = await load();
 const answer: Answer = gs1.readScan("]E09501101530003", 2026);
-const elements: readonly Element[] = [...answer];
+const elements: readonly Gs1Element[] = [...answer];
 const gtin: string | undefined = answer.gtin;
 const kind: SymbolKind | undefined = answer.symbol;
 const expiry: string | undefined = answer["17"]?.date;
@@ -14,6 +17,13 @@ const corners: readonly { x: number; y: number }[] = gs1.readPicture({ width: 1,
 const text: string = gs1.compose([["01", "09501101530003"], { ai: "10", value: "AB" }]);
 const told: string[] = [...associations(answer), ...doubts(answer)].map((it) => it.text);
 export const number: number | undefined = ((error: unknown) => (error instanceof Refusal ? error.number + error.before.length : undefined))(undefined);
+const pictured: Gs1Symbols = gs1.readPicture({ width: 1, height: 1, data: new Uint8ClampedArray(4) }, 2026);
+export const why: readonly string[] = pictured.reason?.fixes ?? [pictured.reason?.remedy ?? String(pictured.dropped)];
+export const scanned: TextAnswer = (await loadTexts()).readScan("]C110AB", 2026);
+export const seen = async (image: Blob): Promise<DetectedBarcode[]> => new BarcodeDetector({ formats: ["ean_13"] }).detect(image);
+export const read = async (reader: Reader, picture: ImageData): Promise<string | undefined> => (await reader.readPicture(picture, 2026)).symbols[0]?.answer.gtin;
+// @ts-expect-error: there is no such format.
+new BarcodeDetector({ formats: ["qr_code"] });
 // @ts-expect-error: the year is wanted.
 gs1.readScan("]E09501101530003");
 // @ts-expect-error: there is no such kind.

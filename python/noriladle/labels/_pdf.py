@@ -5,9 +5,12 @@ import io
 from functools import lru_cache
 from typing import Iterable
 
-from reportlab.pdfbase import pdfmetrics
-from reportlab.pdfbase.ttfonts import TTFError, TTFont
-from reportlab.pdfgen.canvas import Canvas
+try:
+    from reportlab.pdfbase import pdfmetrics
+    from reportlab.pdfbase.ttfonts import TTFError, TTFont
+    from reportlab.pdfgen.canvas import Canvas
+except ImportError as error:
+    raise ImportError("labels as PDF need reportlab: pip install 'noriladle[labels]'") from error
 
 from ._drawing import Drawing, Look
 from ._fonts import Font
