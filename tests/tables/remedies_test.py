@@ -20,7 +20,7 @@ WRONG = [
     ("make it smaller, or cut it\t-\t-\t-", "make it smaller, or cut it\t-\ta\tb",
      "tables/remedies.tsv:46: sentences stand in the first line of a number, or have a key"),
     ("\tzeros\t", "\tisbn\t", "tables/remedies.tsv:62: another line has the key 'isbn'"),
-    ("identifier\t`]I0`", "identifier\tI0", "tables/remedies.tsv:110: no number and name: 'I0'"),
+    ("identifier\t`]I0`", "identifier\tI0", "tables/remedies.tsv:111: no number and name: 'I0'"),
     ("text\t4 Empty\t", "text\tEmpty\t", "tables/remedies.tsv:11: no number and name: 'Empty'"),
     ("row\t24 SymbolCheckDigit", "row\t45 SymbolCheckDigit", "tables/remedies.tsv: no line of 24"),
     ("library\t", "machine\t", "docs/FAULTS.md: 12 tables of faults, not 11"),
