@@ -23,15 +23,38 @@ flag n false = 0
 -- a rectangle with no letters
 abbrev pub dark_part : Part → ℕ → LentPart
 dark_part p ink = record {
-  left = p.left; top = p.top; width = p.width; height = p.height; field = 0; from = 0; count = 0; ink = ink; flags = 0; size = 0; letters_left = 0; base = 0; step = 0;
+  left = p.left;
+  top = p.top;
+  width = p.width;
+  height = p.height;
+  field = 0;
+  from = 0;
+  count = 0;
+  ink = ink;
+  flags = 0;
+  size = 0;
+  letters_left = 0;
+  base = 0;
+  step = 0;
 }
 
 abbrev pub lent_ink : Part → Ink → LentPart
 lent_ink p Bar = dark_part p 0
 lent_ink p Bearer = dark_part p 1
 lent_ink p (Letters run) = record {
-  left = p.left; top = p.top; width = p.width; height = p.height; field = field_number run.field; from = run.from; count = run.count; ink = 2;
-  flags = flag 1 run.is_cut + flag 2 run.is_bold + flag 4 run.is_struck; size = run.size; letters_left = run.left; base = run.base; step = run.step;
+  left = p.left;
+  top = p.top;
+  width = p.width;
+  height = p.height;
+  field = field_number run.field;
+  from = run.from;
+  count = run.count;
+  ink = 2;
+  flags = flag 1 run.is_cut + flag 2 run.is_bold + flag 4 run.is_struck;
+  size = run.size;
+  letters_left = run.left;
+  base = run.base;
+  step = run.step;
 }
 
 -- a part in numbers
@@ -41,7 +64,14 @@ lent_part p = lent_ink p p.ink
 -- a drawing in numbers
 abbrev pub lent_drawing : Drawing → LentDrawing
 lent_drawing d = record {
-  count = length d.parts.items; nominal = d.nominal; width = d.width; height = d.height; top = d.top; end = d.end; left = d.left; dots = d.module;
+  count = length d.parts.items;
+  nominal = d.nominal;
+  width = d.width;
+  height = d.height;
+  top = d.top;
+  end = d.end;
+  left = d.left;
+  dots = d.module;
 }
 
 -- the parts stand at the front if there is room for all of them, and else nothing is written

@@ -82,6 +82,7 @@ pub struct LentDrawing {
 
 // Programs in other languages read them by these sizes.
 const _: () = prove!(size_of::<LentPart>() == 32);
+
 const _: () = prove!(size_of::<LentDrawing>() == 20);
 
 /// The number of an error of labels (docs/FAULTS.md).

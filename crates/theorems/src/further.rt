@@ -51,12 +51,7 @@ pub fn a_drawn_label_is_read()
 
 /// A label that is laid out has all its parts on it, and none over another: the bars of its article's symbol, and outside of that and its quiet
 /// zones letters and bearers. Its price is whole, and each row through its bars answers the article, and nothing else.
-pub fn draw(
-    item: &Item,
-    plan: &Plan,
-    year: Year,
-    row: &mut [u8],
-) -> Result<Drawing, LabelFault>
+pub fn draw(item: &Item, plan: &Plan, year: Year, row: &mut [u8]) -> Result<Drawing, LabelFault>
     requires { 65535 ≤ 8 * length row.old }
     ensures { IfOk result (λ drawing. IsDrawingOf drawing item.now.article.now year) }
 {

@@ -6,10 +6,10 @@ ghost use Rattle.theorems.specs.Words.{AnswerLane, AreAllSeats, AreAnsweredAsByL
 
 mod further;
 
-use command_line::LiveOptions;
-use command_runs::CommandFault;
 use element_core::Year;
-pub use further::{Lists, a_drawn_label_is_read, check_digit, draw, profile_within, read_message, serve};
+pub use further::{
+    Lists, a_drawn_label_is_read, check_digit, draw, profile_within, read_message, serve,
+};
 use hub_core::{Gate, Unsettled};
 use scan_core::{Answer, RunFault, Runs, Symbols};
 use sheet_core::{Grid, Label, Sheet, SheetFault};
@@ -88,10 +88,10 @@ pub fn settle<R: Wait>(rt: &R, alloc: Global, all: Unsettled) -> Result<Lists, U
 pub fn live<R: Threads + Wait + Sync, W: Wire + Drop, G: Gate + Sync>(
     rt: &R,
     alloc: Global,
-    options: LiveOptions,
+    options: command_line::LiveOptions,
     wire: W,
     gate: &G,
-) -> (W, Result<(), CommandFault>)
+) -> (W, Result<(), command_runs::CommandFault>)
     requires fresh { W.Did wire wire [] }
     ensures { options.form ≡ HumanReadable → OnOk result.1 (AreAnsweredAsByLanes options.rows W.Did W.at_end wire result.0) }
 {
