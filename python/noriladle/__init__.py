@@ -114,7 +114,7 @@ class Refusal(ValueError):
         ... except Refusal as refusal:
         ...     print(refusal.remedy)
         a digit is wrong or missing; compare the number with the box: it may be 9501101530003, if its check digit is missing; \
-950110153001, if the last digit is wrong
+950110153007, if the last digit is wrong
 
     For an element string, ``before`` has the elements before the place, and ``ai`` the Application Identifier there, if
     there is one:
