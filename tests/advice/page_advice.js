@@ -9,7 +9,7 @@ globalThis.document = { createElement: () => ({ getContext: () => null }) };
 for (const name of "gs1.module gs1 ais values shop ui core mending typed".split(" ")) vm.runInThisContext(fs.readFileSync(path.join(page, `${name}.js`), "utf8"), name);
 
 const inPage = vm.runInThisContext(`({
-  async load() { gs1 = await Gs1.load(Uint8Array.from(atob(GS1_WASM_32), (c) => c.charCodeAt(0)), 32); core.year = 2026; },
+  async load() { gs1 = await Gs1.load(GS1_WASM_32, 32); core.year = 2026; },
   told(text) {
     const { refused } = readText(text);
     if (!refused) return null;
