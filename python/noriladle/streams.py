@@ -192,7 +192,7 @@ class _Shard:
         self._of.largest[self._shard] = node, max(sizes.values(), default=0)
         largest = max(size for at, size in self._of.largest.values() if at == node)
         self._full = min(self._full, now) if is_full else float("inf")
-        most = largest - 1 if now >= self._full + LOOK else QUOTA
+        most = min(largest - 1, QUOTA) if now >= self._full + LOOK else QUOTA
         for stream, size in sizes.items():
             if size > most:
                 self._of.dropped += await self._shop.ask(stream, "XTRIM", stream, "MAXLEN", 0)
@@ -230,8 +230,8 @@ class _Shard:
         else:
             await self._shop.ask_all(lane, [["XACK", lane, GROUP, name], ["XDEL", lane, name]])
 
-    async def _give(self, found: Sequence[Tuple[str, Sequence[Tuple[str, List[str]]]]]) -> None:
-        """Writes the answers to entries and removes their rows, all or none."""
+    async def _give(self, found: Sequence[Tuple[str, Sequence[Tuple[str, Optional[List[str]]]]]]) -> None:
+        """Writes the answers to entries and removes their rows, all or none. What was read before a fault may be gone."""
         entries = [(lane, name, _fields(words or ())) for lane, some in found for name, words in some]
         texts = [[text[:CUT] for text in of.get("t", "").split("\n", BATCH)[:BATCH]] for _, _, of in entries]
         said = iter(await self._of.answer([text for some in texts for text in some]))
