@@ -404,20 +404,19 @@ async def fill(shop, stream, size, count):
 
 
 def test_a_full_node_loses_its_largest_stream_alone():
-    """It is emptied if the node stays full; the answers of other lanes, which their tills may not have read, stay."""
-    small, other, large = map(keys.answers, "356")
+    """It is emptied if the node stays full; the answers of lanes in other shards, which their tills may not have read, stay."""
+    *small, large = {keys.rows(lane)[:6]: keys.answers(lane) for lane in map(str, range(100))}.values()
     with Cluster(nodes=1) as cluster, Workers(cluster.address, 0) as workers:
         async def test():
             shop = Shop(cluster.address)
-            for stream, size, count in ((small, 100, 200), (other, 1000, 50), (large, 10_000, 1000)):
-                await fill(shop, stream, size, count)
-            for lane in "3456":
-                await shop.ask(ROWS, "XGROUP", "CREATE", keys.rows(lane), "workers", "0", "MKSTREAM")
+            for stream in (*small, large):
+                await fill(shop, stream, *((10_000, 1000) if stream == large else (100, 200)))
+                await shop.ask(ROWS, "XGROUP", "CREATE", stream.replace("answers", "rows"), "workers", "0", "MKSTREAM")
             used = re.search(r"used_memory:(\d+)", await shop.ask(ROWS, "INFO", "memory"))
             await shop.ask(ROWS, "CONFIG", "SET", "maxmemory", int(used[1]) - 5_000_000)
             workers.start("one")
             assert await Till(shop, "4").read(EAN13) == READ
-            assert [await shop.ask(it, "XLEN", it) for it in (small, other, large)] == [200, 50, 0]
+            assert [await shop.ask(it, "XLEN", it) for it in (*small, large)] == [200] * len(small) + [0]
             await shop.close()
 
         asyncio.run(test())
