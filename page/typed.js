@@ -206,7 +206,7 @@ function usualRemedy(number, text, place, separator) {
 const remedyAlone = (number, ai) => ({ key: number === 9 && ai.length !== 2 ? "dayAndTime" : ALONE_KEYS[number] ?? number });
 
 // A text from a place on, which counts bytes.
-const behindPlace = (text, place) => new TextDecoder().decode(new TextEncoder().encode(text).subarray(place));
+const behindPlace = (text, place) => new TextDecoder("utf-8", { ignoreBOM: true }).decode(new TextEncoder().encode(text).subarray(place));
 
 // How the call takes a number: as it is, or with the identifier of an EAN-8 if it may be a UPC-E too.
 const writtenFor = (asked, identifier = "") => (number) =>

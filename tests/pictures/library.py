@@ -32,18 +32,18 @@ class Library:
         given = b"".join(b"%d %d\n" % grey.shape[::-1] + grey.tobytes() for grey in greys)
         for name, words in self.programs.items():
             told = subprocess.run(words, input=given, stdout=subprocess.PIPE, check=True).stdout.decode("ascii")
-            wanted = [lines_of(it) + "\n\n" if it.symbols or name == "C" else "\n" for it in shown]
+            wanted = [lines_of(it) + "\n\n" if it or name == "C" else "\n" for it in shown]
             if "".join(wanted) != told:
                 self.differing += 1
                 print(f"differs: Python {''.join(wanted)!r}, {name} {told!r}", file=sys.stderr)
-        return [it.symbols for it in shown]
+        return shown
 
 
 def lines_of(shown):
     """The library's lines for a picture, without the last line feed."""
-    if not shown.symbols and not shown.dropped:
+    if not shown and not shown.dropped:
         return str(shown.reason or "none")
-    return "\n".join([*map(line_of, shown.symbols), *([f"dropped {shown.dropped}"] if shown.dropped else [])])
+    return "\n".join([*map(line_of, shown), *([f"dropped {shown.dropped}"] if shown.dropped else [])])
 
 
 def line_of(symbol):
