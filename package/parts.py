@@ -68,7 +68,9 @@ def page_made(taken: Take = file_of) -> Files:
     """The files of the page that are made: the module for browsers, also with addresses of 32 bits, and the numbers and texts of shop/."""
     modules = {"GS1_WASM": taken("wasm64/gs1_c.wasm"), "GS1_WASM_32": taken("wasm32/gs1_c.wasm")}
     constants = "".join(_constant(name, data) for name, data in modules.items())
-    told = {path.stem: path.read_text("utf-8").rstrip("\n") for path in sorted((ROOT / "shop").glob("*.json"))}
+    # Without the blanks that only people need.
+    told = {path.stem: json.dumps(json.loads(path.read_text("utf-8")), ensure_ascii=False, separators=(",", ":"))
+            for path in sorted((ROOT / "shop").glob("*.json"))}
     # Files of languages have names of two letters.
     languages = "".join(f"TEXTS.{name} = {text};\n" for name, text in told.items() if len(name) == 2)
     others = "".join(f"const {name.upper()} = {text};\n" for name, text in told.items() if len(name) != 2)
