@@ -233,7 +233,7 @@ EXAMPLE = "09501101530003"  # The number of GS1's examples: advice may show it.
 
 def numbers_in(text):
     """The article numbers that a text names, in 14 digits."""
-    return {digits.zfill(14) for digits in re.findall(r"\d+", text) if is_gtin(digits)} - {EXAMPLE}
+    return {digits.zfill(14) for digits in re.findall(r"(?:\]E\d)?(\d+)", text) if is_gtin(digits)} - {EXAMPLE}
 
 
 class Mistake:
