@@ -9,12 +9,14 @@ pub mod FirstFacts
 pub mod KeptFacts
 pub mod KindFacts
 pub mod LengthFacts
+pub mod NearRuns
 pub mod OneSymbolShown
 pub mod RatioFacts
 pub mod ReplacedCharacter
 pub mod RoundingFacts
 pub mod RowFacts
 pub mod RowParts
+pub mod RunLanes
 pub mod RunsCutOfDots
 pub mod RunsOfDots
 pub mod SearchFacts

@@ -6,5 +6,6 @@ pub mod Limits
 pub mod Parts
 pub mod Place
 pub mod Reading
+pub mod RunLanes
 pub mod Searches
 pub mod Stages

@@ -16,6 +16,7 @@ mod rounding;
 mod row_pool;
 mod runs;
 mod search;
+mod small_runs;
 mod stage;
 mod symbol;
 mod symbols;

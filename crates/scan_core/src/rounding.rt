@@ -6,6 +6,7 @@ ghost use Rattle.scan_core.specs.inner.Limits.{AreLimits, IsLeast, IsPast};
 ghost use Rattle.scan_core.specs.Row.{inner};
 ghost use Rattle.scan_core.specs.Showing.{IsQuiet, IsRun, Rounds};
 
+use crate::small_runs::round_small;
 use arrayvec::ArrayVec;
 
 /// The runs of the longest symbol.
@@ -36,15 +37,15 @@ pub(crate) fn is_quiet(widths: &[u16], total: u32, count: u16) -> bool
 ///
 /// From the first four on a run is near to 1, 2, 3 and 4 modules or above, and from the others on past these.
 #[derive(Clone, Copy)]
-struct Limits {
-    one: u16,
-    two: u16,
-    three: u16,
-    four: u16,
-    past_one: u16,
-    past_two: u16,
-    past_three: u16,
-    past_four: u16,
+pub(crate) struct Limits {
+    pub(crate) one: u16,
+    pub(crate) two: u16,
+    pub(crate) three: u16,
+    pub(crate) four: u16,
+    pub(crate) past_one: u16,
+    pub(crate) past_two: u16,
+    pub(crate) past_three: u16,
+    pub(crate) past_four: u16,
 }
 
 /// The least width in dots that is this many thirds of a module, if `total` dots are `count` modules.
@@ -132,6 +133,9 @@ fn round_each(inner: &[u16], total: u16, count: u16, modules: &mut [u8]) -> bool
     ensures none { result ≡ false → (ms : List ℕ) → AllZip (IsRun count total) inner.now ms → ⊥ }
 {
     let limits = limits_of(total, count);
+    if limits.past_four <= 255 && inner.len() >= 16 {
+        return round_small(inner, limits, modules);
+    }
     let mut each = true;
     'runs: for i in 0..inner.len() {
         let (found, is_near) = modules_of(inner[i], limits);

@@ -1,5 +1,8 @@
-use Rattle.std.proofs.Common.{◌∙◌}
+use Rattle.std.proofs.Common.{◌∙◌, subst, sym, true}
+use Rattle.std.specs.List.{AllZip}
 use Rattle.std.proofs.lemmas.List.{length-set}
+use Rattle.scan_core.specs.Showing.{IsRun}
+use Rattle.scan_core.proofs.NearRuns.{all_near, all_small, some_far}
 use Rattle.scan_core.proofs.RoundingFacts.{none_more, one_more}
 use Rattle.scan_core.proofs.rounding.round_each.Goals as goal
 
@@ -15,3 +18,17 @@ runs-preserved c =
       none = none_more c.args.count c.args.total runs c.runs.i c.runs.each c.modules_of-found.result.1 low inv.none
           (c.modules_of-found.ensures.none c.args.count c.args.total c.requires.dots c.limits_of-limits.ensures);
     }
+
+pub round_small-requires-clause-small : goal.round_small-requires-clause-small
+round_small-requires-clause-small c = all_small c.args.count c.args.total c.limits_of-limits.result c.limits_of-limits.ensures c.if-limits-le255.true
+
+pub returns-then-inner-ge16-clause-found : goal.returns-then-inner-ge16-clause-found
+returns-then-inner-ge16-clause-found c = λ all.
+    subst (AllZip (IsRun c.args.count c.args.total) c.args.inner.now) (sym (c.round_small.ensures.put all))
+    (all_near c.args.count c.args.total c.requires.dots c.limits_of-limits.result c.limits_of-limits.ensures c.args.inner.now
+    (sym c.round_small.ensures.near ∙ all))
+
+pub returns-then-inner-ge16-clause-none : goal.returns-then-inner-ge16-clause-none
+returns-then-inner-ge16-clause-none c = λ not_all.
+    some_far c.args.count c.args.total c.requires.dots c.limits_of-limits.result c.limits_of-limits.ensures c.args.inner.now
+    (sym c.round_small.ensures.near ∙ not_all)

@@ -1,0 +1,130 @@
+//! Rounds sixteen runs at a time, if no limit is above 255 dots, as in most rows: each byte of a vector is a run.
+//!
+//! Of the limits above one module, as many as a width comes up to say how many modules are nearest to it. This number
+//! names the least width of so many modules and the first width past them, so that two comparisons more say whether it is
+//! near. A table of widths would need fewer steps for a block, but is made anew for each row, and most have few blocks.
+ghost use Rattle.std.specs.Prelude.{◌≡◌, ◌+◌, ◌++◌, ◌∷◌, ◌≤◌, cond, drop, length, map, nat_le, replicate, take, true};
+ghost use Rattle.std.specs.Simd.Lanes.{zip2};
+ghost use Rattle.scan_core.specs.inner.RunLanes.{AreSmall, above_one, are_near, modules_or_none, reaches};
+
+use crate::rounding::Limits;
+use std::simd::prelude::*;
+
+/// 1 in each lane whose width comes up to the limit beside it, and else 0.
+#[inline(always)]
+fn reached(widths: u8x16, limits: u8x16) -> u8x16
+    ensures { result ≡ zip2 reaches limits widths }
+{
+    limits
+        .simd_le(widths)
+        .select(u8x16::splat(1), u8x16::splat(0))
+}
+
+/// Four limits, and zeros behind them.
+#[inline(always)]
+fn in_lanes(one: u16, two: u16, three: u16, four: u16) -> u8x16
+    requires one { one ≤ 255 }
+    requires two { two ≤ 255 }
+    requires three { three ≤ 255 }
+    requires four { four ≤ 255 }
+    ensures { result ≡ one ∷ two ∷ three ∷ four ∷ replicate 12 0 }
+{
+    let a = one as u8;
+    let b = two as u8;
+    let c = three as u8;
+    let d = four as u8;
+    u8x16::from_array([a, b, c, d, 0, 0, 0, 0, 0, 0, 0, 0, 0, 0, 0, 0])
+}
+
+/// To how many limits above one module each width comes up.
+#[inline(always)]
+fn above_one(widths: u8x16, limits: Limits) -> u8x16
+    requires small { AreSmall limits }
+    ensures { result ≡ map (above_one limits) widths }
+{
+    reached(widths, u8x16::splat(limits.two as u8))
+        + reached(widths, u8x16::splat(limits.three as u8))
+        + reached(widths, u8x16::splat(limits.four as u8))
+}
+
+/// The number of modules of each run, 0 for one that is near to none.
+#[inline(always)]
+fn modules_of_each(widths: u8x16, limits: Limits) -> u8x16
+    requires small { AreSmall limits }
+    ensures { result ≡ map (modules_or_none limits) widths }
+{
+    let above = above_one(widths, limits);
+    let least = in_lanes(limits.one, limits.two, limits.three, limits.four);
+    let past = in_lanes(
+        limits.past_one,
+        limits.past_two,
+        limits.past_three,
+        limits.past_four,
+    );
+    let least = least.swizzle_dyn_within::<16>(above);
+    let past = past.swizzle_dyn_within::<16>(above);
+    let none = u8x16::splat(0);
+    let not_past = past.simd_le(widths).select(none, above + u8x16::splat(1));
+    least.simd_le(widths).select(not_past, none)
+}
+
+/// Whether no lane is 0.
+#[inline(always)]
+fn are_near(modules: u8x16) -> bool
+    ensures { result ≡ are_near modules }
+{
+    modules.simd_eq(u8x16::splat(0)).to_bitmask() == 0
+}
+
+/// Widths as bytes, those above 255 as 255.
+#[inline(always)]
+fn as_bytes(widths: u16x16) -> u8x16
+    ensures { result ≡ map (λ w. cond (nat_le w 255) w 255) widths }
+{
+    let most = u16x16::splat(255);
+    widths.simd_le(most).select(widths, most).cast::<u8>()
+}
+
+/// Puts sixteen lanes into their places.
+#[inline(always)]
+fn put_lanes(lanes: u8x16, modules: &mut [u8], at: usize)
+    requires room { at + 16 ≤ length modules.old }
+    ensures put { modules.new ≡ take at modules.old ++ (lanes ++ drop (at + 16) modules.old) }
+{
+    lanes.copy_to_slice(&mut modules[at..at + 16]);
+}
+
+/// Puts the modules of sixteen runs into their places, and answers whether each run has some.
+#[inline(always)]
+fn round_block(inner: &[u16], at: usize, limits: Limits, modules: &mut [u8]) -> bool
+    requires room { at + 16 ≤ length inner.now }
+    requires places { length modules.old ≡ length inner.now }
+    requires small { AreSmall limits }
+    ensures put { modules.new ≡ take at modules.old
+        ++ (map (modules_or_none limits) (take 16 (drop at inner.now)) ++ drop (at + 16) modules.old) }
+    ensures near { result ≡ are_near (map (modules_or_none limits) (take 16 (drop at inner.now))) }
+{
+    let found = modules_of_each(as_bytes(u16x16::from_slice(&inner[at..])), limits);
+    put_lanes(found, modules, at);
+    are_near(found)
+}
+
+/// Puts the number of modules of each run into its place, and answers whether each run has one. The last sixteen are
+/// rounded together, some of them a second time.
+pub(crate) fn round_small(inner: &[u16], limits: Limits, modules: &mut [u8]) -> bool
+    requires many { 16 ≤ length inner.now }
+    requires places { length modules.old ≡ length inner.now }
+    requires small { AreSmall limits }
+    ensures places { length modules.new ≡ length inner.now }
+    ensures put { result ≡ true → modules.new ≡ map (modules_or_none limits) inner.now }
+    ensures near { result ≡ are_near (map (modules_or_none limits) inner.now) }
+{
+    let mut done = 0;
+    'blocks: while inner.len() - done > 16 {
+        if !round_block(inner, done, limits, modules) {
+            return false;
+        }
+        done += 16;
+    }
+    round_block(inner, inner.len() - 16, limits, modules)
+}
