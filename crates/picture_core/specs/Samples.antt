@@ -76,15 +76,15 @@ samples_sum picture line sample (suc lower) =
     samples_sum picture line sample lower + cubic_at picture (sample_right line sample lower) (sample_down line sample lower)
 
 -- dark for light, if the bars are light
-abbrev pub turned : Bool → ℕ → ℕ
-turned true value = 98304 - value
-turned false value = value
+abbrev pub as_seen : Bool → ℕ → ℕ
+as_seen true value = 98304 - value
+as_seen false value = value
 
 -- the value is the mean of the lines at a sample, and all of them are in the picture there
 pub record IsSampleAt (picture : Greys) (line : SeenLine) (sample value : ℕ) : Type 0 where
   pub some : 0 < line.lines
   pub amid : (lower : ℕ) → lower < line.lines → IsInPicture picture (sample_right line sample lower) (sample_down line sample lower)
-  pub mean : value ≡ turned line.is_inverted (samples_sum picture line sample line.lines / line.lines)
+  pub mean : value ≡ as_seen line.is_inverted (samples_sum picture line sample line.lines / line.lines)
 
 -- one of the lines is beyond the picture at a dot
 pub record IsBeyondEdge (picture : Greys) (line : SeenLine) (dot : ℕ) : Type 0 where

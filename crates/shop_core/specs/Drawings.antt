@@ -218,8 +218,8 @@ abbrev pub ends_line : ℕ → ℕ → Bool
 ends_line f letter = (f == 7) && (letter == 10)
 
 -- an ellipsis stands in front of letter e of a text, and no line ends from there up to letter i
-abbrev pub GoesOn : List Part → ℕ → List ℕ → ℕ → ℕ → Type 0
-GoesOn parts f text e i = (list_any (is_cut_at f e) parts ≡ true) × ((j : ℕ) → e ≤ j → j < i → ends_line f (slice_index text j) ≡ false)
+abbrev pub IsBehindEllipsis : List Part → ℕ → List ℕ → ℕ → ℕ → Type 0
+IsBehindEllipsis parts f text e i = (list_any (is_cut_at f e) parts ≡ true) × ((j : ℕ) → e ≤ j → j < i → ends_line f (slice_index text j) ≡ false)
 
 -- whether letter i of a text is on the label, if it is no blank
 abbrev pub is_shown : List Part → ℕ → List ℕ → ℕ → Bool
@@ -227,7 +227,7 @@ is_shown parts f text i = is_blank (slice_index text i) || list_any (has_letter 
 
 -- nothing of a text is left out in silence: each letter is on the label, or in its line behind an ellipsis
 abbrev pub TellsText : List Part → ℕ → List ℕ → Type 0
-TellsText parts f text = (i : ℕ) → i < length text → (is_shown parts f text i ≡ true) ⊎ ((e : ℕ) × (e ≤ i) × GoesOn parts f text e i)
+TellsText parts f text = (i : ℕ) → i < length text → (is_shown parts f text i ≡ true) ⊎ ((e : ℕ) × (e ≤ i) × IsBehindEllipsis parts f text e i)
 
 abbrev pub is_price : Field → Bool
 is_price Price = true
