@@ -7,7 +7,9 @@ others change. The numbers of refusals are those of docs/FAULTS.md.
 import csv
 import itertools
 import os
+import re
 
+from element_strings import X, is_predefined
 from program import CommandTest, field
 
 AIS = os.path.join(os.path.dirname(os.path.abspath(__file__)), "..", "..", "tables", "ais.tsv")
@@ -227,12 +229,31 @@ def cases():
         yield ai, good, list(zip(bad[::2], map(int, bad[1::2])))
 
 
-def lines():
-    """The AIs of each line of the table, and whether they are of the profile."""
+def rows():
+    """The AIs of each line of the table, and the line."""
     with open(AIS, encoding="utf-8", newline="") as file:
         for row in csv.DictReader(file, delimiter="\t", quoting=csv.QUOTE_NONE):
             least, _, greatest = row["ai"].partition("-")
-            yield [f"{it:0{len(least)}d}" for it in range(int(least), int(greatest or least) + 1)], row["profile"] != "-"
+            yield [f"{it:0{len(least)}d}" for it in range(int(least), int(greatest or least) + 1)], row
+
+
+def lines():
+    """The AIs of each line of the table, and whether they are of the profile."""
+    for ais, row in rows():
+        yield ais, row["profile"] != "-"
+
+
+def bounds(notation):
+    """The least and the greatest length of a format: N6 has six digits, N..6 one to six, and what is in brackets may be absent."""
+    sizes = [re.fullmatch(r"(\[?)[NXYZ](\.\.)?(\d+)]?", it.split(",")[0]).groups() for it in notation.split(" ")]
+    return sum(0 if absent else 1 if upto else int(most) for absent, upto, most in sizes), sum(int(most) for _, _, most in sizes)
+
+
+def pair(model):
+    """The check characters of a GMN (GS1 General Specifications, section 7.9.5)."""
+    primes = [it for it in range(2, 90) if all(it % divisor for divisor in range(2, it))]
+    total = sum(prime * X.index(character) for prime, character in zip(primes, reversed(model))) % 1021
+    return "".join("23456789ABCDEFGHJKLMNPQRSTUVWXYZ"[it] for it in divmod(total, 32))
 
 
 def outcomes(ai, good, bad):
@@ -304,6 +325,32 @@ class ValuesTest(CommandTest):
             ("text,8007DE89370400440532013000", "hri (8007)DE89370400440532013000"),
             ("text,8007DE88370400440532013000", "refused 8 ValueCheckDigit 0"),
         ])
+
+    def test_each_character_in_a_gmn(self):
+        self.gives_lines("check --year 2026 --ais all", [
+            line
+            for place, character in itertools.product(range(20), X)
+            for model in ["1987654" + place * "7" + character + "a"]
+            for right in [pair(model)]
+            for other in ["22" if right != "22" else "23"]
+            for line in [
+                (f"text,{field('8013' + model + right)}", f"hri (8013){model}{right}"),
+                (f"text,{field('8013' + model + other)}", "refused 8 ValueCheckDigit 0"),
+            ]
+            if len(model) <= 23
+        ])
+
+    def test_one_character_fewer_and_one_more(self):
+        good = {ai: value for ai, value, _ in cases()}
+        told = []
+        for ais, row in rows():
+            least, greatest = bounds(row["format"])
+            ai = next(it for it in ais if it in good)
+            told.append((f"text,{field(ai + good[ai][: least - 1])}", "refused 6 ValueLength 0"))
+            if not is_predefined(ai):
+                longer = good[ai] + (greatest + 1 - len(good[ai])) * good[ai][-1]
+                told.append((f"text,{field(ai + longer)}", "refused 10 MissingSeparator 0"))
+        self.gives_lines("check --year 2026 --ais all", told)
 
     def are_answered(self, cases):
         """That values of AIs are good, or that a character of them is refused."""

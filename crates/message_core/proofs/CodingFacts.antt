@@ -1,28 +1,36 @@
--- Steps of `decoded` through a text with percent codes: digits of a code are passed over, and more than 192 bytes do not fit.
-use Rattle.std.proofs.Common.{◌≡◌, ◌==◌, ◌<◌, ◌+◌, ◌-◌, ◌∷◌, ◌++◌, ◌∙◌, List, ap, arith, drop, false, get_or, if◌then◌else◌, length, length-append, refl, subst, sym, ℕ}
-use Rattle.std.proofs.lemmas.Bool.{cond_both, ne_eqb}
-use Rattle.std.proofs.lemmas.List.{drop_more}
-use Rattle.message_core.specs.Coding.{coded_byte, decoded}
+-- What was encoded is read again.
+use Rattle.std.proofs.Common.{◌≡◌, ◌==◌, ◌<◌, ◌+◌, ◌*◌, ◌/◌, ◌%◌, ◌∷◌, ◌∙◌, [], Bool, List, ap, arith, false, true, refl, sym, ℕ, if◌then◌else◌}
+use Rattle.std.proofs.lemmas.Bool.{cond_both, ne_eqb, true≢false}
+use Rattle.std.proofs.lemmas.Grind.{common_steps}
+use Rattle.std.proofs.lemmas.Nat.{div-add-mod'}
+use Rattle.message_core.specs.Coding.{coded_byte, decoded, encoded, hex_digit, hex_value, plain_byte}
+use Rattle.message_core.specs.Laws.{CodesAreRead}
 
--- a digit of a code is passed over
-pub step_skip : (plus skip : ℕ) (text : List ℕ) (i : ℕ) → i < length text → 0 < skip
-    → decoded plus skip (drop i text) ≡ decoded plus (skip - 1) (drop (i + 1) text)
-step_skip plus skip text i low some =
-    let ne : (skip == 0) ≡ false = ne_eqb skip 0 (λ e. omega (arith, e, some)) in
-    rw (drop_more text i 0 low, ne) refl
+-- a byte that is no `%` stands for one, whatever is behind it
+plain_step : (plus b : ℕ) (text : List ℕ) → (b == 37) ≡ false → decoded plus (b ∷ text) ≡ plain_byte plus b ∷ decoded plus text
+unfolding decoded
+plain_step plus b [] other = refl
+plain_step plus b (c ∷ []) other = refl
+plain_step plus b (high ∷ low ∷ text) other = rw (other) refl
 
-some_decoded : (plus b : ℕ) (text : List ℕ) → 0 < length (decoded plus 0 (b ∷ text))
-some_decoded plus b text =
-    cond_both (b == 37) (coded_byte text ∷ decoded plus 2 text) ((if b == 43 then plus else b) ∷ decoded plus 0 text) (λ bs. 0 < length bs)
-    (λ _. omega arith) (λ _. omega arith)
+-- a digit has the number that it was written for
+digit_back : (n : ℕ) → n < 16 → hex_value (hex_digit n) ≡ n
+digit_back n low = grind (arith, common_steps)
 
--- a byte that is not passed over stands for one
-some_left : (plus : ℕ) (text : List ℕ) (i : ℕ) → i < length text → 0 < length (decoded plus 0 (drop i text))
-some_left plus text i low = subst (λ t. 0 < length (decoded plus 0 t)) (sym (drop_more text i 0 low)) (some_decoded plus (get_or text i 0) (drop (i + 1) text))
+-- and two of them the byte
+byte_back : (b : ℕ) → b < 256 → coded_byte (hex_digit (b / 16)) (hex_digit (b % 16)) ≡ b
+byte_back b low = rw (digit_back (b / 16) (omega (arith, low)), digit_back (b % 16) (omega arith)) (div-add-mod' b 16)
 
--- so that more do not fit
-pub too_many : (plus skip : ℕ) (bytes text : List ℕ) (i : ℕ) → i < length text → skip ≡ 0 → length bytes ≡ 192
-    → bytes ++ decoded plus skip (drop i text) ≡ decoded plus 0 text → 192 < length (decoded plus 0 text)
-too_many plus skip bytes text i low none full is =
-    let at : bytes ++ decoded plus 0 (drop i text) ≡ decoded plus 0 text = ap (λ n. bytes ++ decoded plus n (drop i text)) (sym none) ∙ is in
-    omega (arith, ap length at, length-append bytes (decoded plus 0 (drop i text)), full, some_left plus text i low)
+-- a byte that is kept is another one than these
+other_than : (is_kept : ℕ → Bool) (b c : ℕ) → is_kept b ≡ true → is_kept c ≡ false → (b == c) ≡ false
+other_than is_kept b c kept out = ne_eqb b c (λ e. true≢false (sym kept ∙ ap is_kept e ∙ out))
+
+pub codes_are_read : CodesAreRead
+unfolding decoded encoded
+codes_are_read plus is_kept [] percent sign below = refl
+codes_are_read plus is_kept (b ∷ bytes) percent sign below =
+    let rest : decoded plus (encoded is_kept bytes) ≡ bytes = codes_are_read plus is_kept bytes percent sign below.1 in
+    cond_both (is_kept b) (b ∷ encoded is_kept bytes) (37 ∷ hex_digit (b / 16) ∷ hex_digit (b % 16) ∷ encoded is_kept bytes) (λ t. decoded plus t ≡ b ∷ bytes)
+    (λ kept. plain_step plus b (encoded is_kept bytes) (other_than is_kept b 37 kept percent)
+    ∙ rw (other_than is_kept b 43 kept sign, rest) refl)
+    (λ _. rw (byte_back b below.0, rest) refl)

@@ -1,10 +1,12 @@
 -- What the definitions of messages and of Digital Links say together.
-use Rattle.std.specs.Prelude.{◌≡◌, ◌↔◌, ◌⊎◌, ◌≤◌, ◌<◌, ◌-◌, ◌+◌, ◌++◌, ℕ, true, List, [], ◌∷◌, Option, Some, Ok, Err, codes}
+use Rattle.std.specs.Prelude.{◌≡◌, ◌↔◌, ◌⊎◌, ◌≤◌, ◌<◌, ◌-◌, ◌+◌, ◌++◌, ℕ, Bool, false, true, List, [], ◌∷◌, Option, Some, Ok, Err, codes}
+use Rattle.std.specs.List.{AllByRecursion}
 use Rattle.digits_core.specs.Digits.{AreAsciiDigits, digits_of}
 use Rattle.digits_core.specs.Upce.{IsUpceOf}
 use Rattle.element_core.specs.Elements.{Entry, gtin_entry, pairs_text}
 use Rattle.element_core.specs.declared.form.Form.{Form}
 use Rattle.element_core.specs.declared.form.Form.TheVariants.{Pairs}
+use Rattle.message_core.specs.Coding.{decoded, encoded}
 use Rattle.message_core.specs.Keys.{is_key, place_by}
 use Rattle.message_core.specs.Links.{key_part}
 use Rattle.element_core.specs.Terms.{Terms}
@@ -44,6 +46,11 @@ UpceIsExpanded = (year : Terms) (six gtin : List ℕ) (check : ℕ) → AreAscii
     → MessageSays year (codes "]E0" ++ (48 ∷ six) ++ check ∷ []) (codes "]E0") (gtin_entry gtin ∷ [])
 
 -- ---- Digital Links
+
+-- a text with percent codes says what was encoded, whichever bytes besides `%` and `+` were kept
+abbrev pub CodesAreRead : Type 0
+CodesAreRead = (plus : ℕ) (is_kept : ℕ → Bool) (bytes : List ℕ) → is_kept 37 ≡ false → is_kept 43 ≡ false → AllByRecursion (λ b. b < 256) bytes
+    → decoded plus (encoded is_kept bytes) ≡ bytes
 
 -- AIs and values as segments
 abbrev pub spread : List Entry → List (List ℕ)

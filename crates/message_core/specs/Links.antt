@@ -50,7 +50,7 @@ fourteen value =
 -- an AI of the path and its value
 abbrev pub path_entry : List ℕ → List ℕ → Entry
 path_entry ai value =
-    record { ai = ai; value = if bytes_eq ai (codes "01") then fourteen (decoded 43 0 value) else decoded 43 0 value }
+    record { ai = ai; value = if bytes_eq ai (codes "01") then fourteen (decoded 43 value) else decoded 43 value }
 
 abbrev pub path_entries : List (List ℕ) → List Entry
 path_entries (ai ∷ value ∷ rest) = path_entry ai value ∷ path_entries rest
@@ -68,7 +68,7 @@ is_ai name = not (length name == 0) && list_all is_ascii_digit name
 
 -- such a parameter is an AI and its value, in which `+` may stand for a blank, which no value has
 abbrev pub query_entry : List ℕ → Entry
-query_entry parameter = record { ai = name_of parameter; value = decoded 32 0 (after_first (λ b. b == 61) parameter) }
+query_entry parameter = record { ai = name_of parameter; value = decoded 32 (after_first (λ b. b == 61) parameter) }
 
 abbrev pub query_entries : List (List ℕ) → List Entry
 query_entries [] = []

@@ -1,5 +1,5 @@
 //! Percent codes (RFC 3986, section 2.1).
-ghost use Rattle.std.specs.Prelude.{◌≡◌, ◌<◌, ◌≤◌, length, drop, IfNone, IfSome};
+ghost use Rattle.std.specs.Prelude.{◌≡◌, ◌<◌, ◌≤◌, ◌∷◌, [], length, IfNone, IfSome};
 ghost use Rattle.message_core.specs.Coding.{begins_code, coded_byte, decoded, hex_value, is_coded};
 
 use element_core::Text;
@@ -39,38 +39,42 @@ fn hex_value(digit: u8) -> u8
     }
 }
 
-/// The byte of the code whose two digits begin a text.
-fn coded_byte(text: &[u8]) -> u8
-    ensures { result ≡ coded_byte text.now }
+/// The byte of a code by its two digits.
+fn coded_byte(high: u8, low: u8) -> u8
+    ensures { result ≡ coded_byte high low }
+{
+    hex_value(high) * 16 + hex_value(low)
+}
+
+/// What the first byte or code of a text stands for, and what is behind it; `plus` is what a `+` means.
+#[tactic(auto, unfolding(crate::specs::Coding::decoded))]
+fn first_byte(plus: u8, text: &[u8]) -> Option<(u8, &[u8])>
+    ensures some { IfSome result (λ p. decoded plus text.now ≡ p.0 ∷ decoded plus p.1.now) }
+    ensures shorter { IfSome result (λ p. length p.1.now < length text.now) }
+    ensures none { IfNone result (decoded plus text.now ≡ []) }
 {
     match text {
-        [high, low, ..] => hex_value(*high) * 16 + hex_value(*low),
-        _ => 0,
+        [b'%', high, low, behind @ ..] => Some((coded_byte(*high, *low), behind)),
+        [b'+', behind @ ..] => Some((plus, behind)),
+        [byte, behind @ ..] => Some((*byte, behind)),
+        [] => None,
     }
 }
 
 /// The bytes of a text with percent codes in it, if they are at most 192; `plus` is what a `+` means.
 pub(crate) fn decoded(plus: u8, text: &[u8]) -> Option<Text>
-    ensures some { IfSome result (λ bytes. bytes.items ≡ decoded plus 0 text.now) }
+    ensures some { IfSome result (λ bytes. bytes.items ≡ decoded plus text.now) }
     ensures few { IfSome result (λ bytes. length bytes.items ≤ 192) }
-    ensures none { IfNone result (192 < length (decoded plus 0 text.now)) }
+    ensures none { IfNone result (192 < length (decoded plus text.now)) }
 {
     let mut bytes = Text::new();
-    let mut skip: u8 = 0;
-    for (i, byte) in text.iter().enumerate() {
-        if skip > 0 {
-            skip -= 1;
-            continue;
-        }
+    let mut rest = text;
+    while let Some((byte, behind)) = first_byte(plus, rest) {
         if bytes.is_full() {
             return None;
         }
-        if *byte == b'%' {
-            bytes.push(coded_byte(&text[i + 1..]));
-            skip = 2;
-        } else {
-            bytes.push(if *byte == b'+' { plus } else { *byte });
-        }
+        bytes.push(byte);
+        rest = behind;
     }
     Some(bytes)
 }

@@ -1,5 +1,5 @@
 //! Laws of the definitions: each function does nothing, and its contract is the law.
-ghost use Rattle.message_core.specs.Laws.{KeyPartIs, OneMessage, OneMessageLine, PairsSayElements, UpceIsExpanded};
+ghost use Rattle.message_core.specs.Laws.{CodesAreRead, KeyPartIs, OneMessage, OneMessageLine, PairsSayElements, UpceIsExpanded};
 
 use digits_core::gtins_are_checked;
 use element_core::{faultless_pairs, gtin_reads, one_list_or_fault, pairs_differ};
@@ -36,4 +36,9 @@ pub fn upce_is_expanded()
 /// A path has one part at most that is a key, its value and its qualifiers to the end, whatever stands before it.
 pub fn key_part_is()
     ensures { KeyPartIs }
+{}
+
+/// A text with percent codes says what was encoded.
+pub fn codes_are_read()
+    ensures { CodesAreRead }
 {}
