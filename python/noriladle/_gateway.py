@@ -8,15 +8,14 @@ import math
 import re
 import socket
 import time
-from typing import AsyncIterator, Awaitable, Callable, Dict, List, Optional, Protocol, Set, Tuple, Union
+from typing import AsyncIterator, Awaitable, Callable, Dict, List, Optional, Protocol, Set, Tuple
 
-from . import Answer, Refusal
 from ._door import Place, Places
 from ._health import Metrics
 from ._journal import Scan
 from ._log import Log
 from ._rights import Rights, all_rights, name_of_token, unix_names, unix_peer
-from ._scans import LEAST_TURN, Listener, ScanLane, Scans, is_series, text_of
+from ._scans import LEAST_TURN, Listener, ScanLane, Scans, is_series
 from .live import Hub, HubEnded, Lane
 
 CUT = 65_536 + 1
@@ -31,8 +30,8 @@ PAUSE = 0.005
 LINES = 64
 """After so many lines of one connection the others have their turn."""
 _HTTP = re.compile(rb"[A-Z]+ \S+ HTTP/[0-9.]+\r?")
-OWN, ITS_ANSWER = "]E09501101530003", "]E0 (01)09501101530003"
-"""The text of the gateway's own scan, and the right answer to it."""
+OWN, ITS_ANSWERS = "]E09501101530003", ("]E0 (01)09501101530003", "]E0 01=09501101530003")
+"""The text of the gateway's own scan, and the right answers to it, without and with elements."""
 
 SPARE_IDLE = 5.0
 """How many seconds a connection with a place for scanners alone may say nothing."""
@@ -138,8 +137,8 @@ class Rows:
         try:
             async for reply in self._lane.read_all(lines, ahead):
                 number = "-" if reply.number is None else next(self._numbers)
-                answers.append(f"{number} {text_of(reply.answer, gateway.elements)}")
-                gateway.seen(reply.answer, time.monotonic() - begin)
+                answers.append(f"{number} {reply.said}")
+                gateway.seen(reply.said, time.monotonic() - begin)
         finally:
             try:
                 why = await self._keep(lines, answers)
@@ -288,12 +287,12 @@ class Gateway:
     connections leave to those of the UNIX socket."""
 
     def __init__(
-        self, hub: Hub, idle: float, elements: bool, kept: int, places: Places, log: Log, metrics: Metrics, rights: Rights = all_rights(),
+        self, hub: Hub, idle: float, kept: int, places: Places, log: Log, metrics: Metrics, rights: Rights = all_rights(),
     ) -> None:
-        self.hub, self.idle, self.elements, self.kept, self.places = hub, idle, elements, kept, places
+        self.hub, self.idle, self.kept, self.places = hub, idle, kept, places
         self.log, self.metrics, self.rights = log, metrics, rights
         self.free = [hub.lane(number) for number in range(hub.lanes)]
-        self.scans = Scans(hub, elements)
+        self.scans = Scans(hub)
         self.scans.seen = self.seen
         self.began: Dict[Rows, float] = {}
         """When the gateway began to answer what a client sent."""
@@ -334,14 +333,12 @@ class Gateway:
         now = time.monotonic()
         return {name: now - min(since, default=now) for name, since in self._since().items()}
 
-    def seen(self, answer: Union[Answer, Refusal, None], seconds: float) -> None:
-        """Counts an answer, and how long it took; None is a scan without one."""
-        if answer is None:
-            return
+    def seen(self, said: str, seconds: float) -> None:
+        """Counts an answer, and how long it took."""
         self._answers.add()
         self._took.see(seconds)
-        if isinstance(answer, Refusal):
-            self._refusals.add(str(answer.number))
+        if said.startswith("refused "):
+            self._refusals.add(said.split(" ")[1])
 
     async def trip(self) -> str:
         """Has a scan of its own answered by the hub. Returns why it was not, or nothing."""
@@ -349,10 +346,10 @@ class Gateway:
         if why:
             return why
         try:
-            answer = str((await self.hub.lane(0).read(OWN)).answer)
+            said = (await self.hub.lane(0).read(OWN)).said
         except HubEnded as fault:
             return str(fault)
-        return "" if answer == ITS_ANSWER else f"the hub answers {answer} to {OWN}"
+        return "" if said == ITS_ANSWERS[self.hub.elements] else f"the hub answers {said} to {OWN}"
 
     def take_lane(self, is_unix: bool) -> Lane:
         """A lane that no other connection has."""

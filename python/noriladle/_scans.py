@@ -12,9 +12,8 @@ import re
 import secrets
 import time
 from dataclasses import dataclass
-from typing import Callable, Dict, List, Optional, Union
+from typing import Callable, Dict, List, Optional
 
-from . import Answer, Refusal, _pairs
 from ._journal import Journal, Scan
 from .live import Hub, Lane, Reply
 
@@ -32,15 +31,8 @@ _SERIES = re.compile(r"[0-9a-f]{8}")
 
 Tell = Callable[[str], None]
 """Sends a line to the other end, without waiting."""
-Seen = Callable[[Union[Answer, Refusal, None], float], None]
-"""Counts an answer, or None for a scan that is unread, and how many seconds it took."""
-
-
-def text_of(answer: Union[Answer, Refusal], elements: bool) -> str:
-    """The text of an answer, with elements for people, or as `gs1_hub live --elements` writes them."""
-    if elements and isinstance(answer, Answer):
-        return f"{answer.identifier or '-'} " + "\t".join([f"{ai}={value}" for ai, value in _pairs(answer)])
-    return str(answer)
+Seen = Callable[[str, float], None]
+"""Counts an answer, and how many seconds it took."""
 
 
 def is_name(word: str) -> bool:
@@ -85,7 +77,7 @@ class ScanLane:
     17 knows by this that it was lost. Nothing is kept for a till that is not connected.
     """
 
-    def __init__(self, name: str, lane: Lane, elements: bool) -> None:
+    def __init__(self, name: str, lane: Lane) -> None:
         self.name = name
         self.watchers: List[Listener] = []
         self.scanner: Optional[Listener] = None
@@ -97,9 +89,9 @@ class ScanLane:
         """Whether another scanner came while the lane had this one."""
         self.scans = self.unread = self.lost = self.refused = 0
         """How many scans came, had no answer, never came, and how many scanners found the lane taken."""
-        self.seen: Seen = lambda answer, seconds: None
+        self.seen: Seen = lambda said, seconds: None
         self.journal: Optional[Journal] = None
-        self._lane, self._elements = lane, elements
+        self._lane = lane
         self._asked = 0
         self._waiting: Dict[int, _Asked] = {}
         self._room: Optional[asyncio.Future[None]] = None
@@ -198,18 +190,17 @@ class ScanLane:
             asked.reply.cancel()
             said = f"unread: no answer in {SECONDS:g} seconds"
             self._keep(number, asked, said)
-            self._send(number, asked, said, None)
+            self._send(number, asked, said, True)
 
     def _answered(self, number: int, asked: _Asked, reply: "asyncio.Future[Reply]") -> None:
         """The hub has answered. If there is a journal, it gets the answer first. Answers come in the order of the scans."""
         if self._waiting.get(number) is not asked or reply.cancelled() or reply.exception():
             return  # Nobody waits any more, or the hub has ended, and with it each connection.
-        answer = None if asked.unread else reply.result().answer
-        said = f"unread: {asked.unread}" if answer is None else text_of(answer, self._elements)
+        said = f"unread: {asked.unread}" if asked.unread else reply.result().said
         if self.journal:
-            self._keep(number, asked, said, functools.partial(self._kept, number, asked, said, answer))
+            self._keep(number, asked, said, functools.partial(self._kept, number, asked, said))
         else:
-            self._send(number, asked, said, answer)
+            self._send(number, asked, said, bool(asked.unread))
 
     def _keep(self, number: int, asked: _Asked, said: str, kept: Optional[Callable[[str], None]] = None) -> None:
         """Writes a scan into the journal, if there is one, and once."""
@@ -217,22 +208,23 @@ class ScanLane:
             asked.is_kept = True
             self.journal.put(Scan(asked.time, self.name, self.series, str(number), asked.text, said), kept)
 
-    def _kept(self, number: int, asked: _Asked, said: str, answer: Union[Answer, Refusal, None], why: str) -> None:
+    def _kept(self, number: int, asked: _Asked, said: str, why: str) -> None:
         """The journal has a scan and its answer, or says why not. Nobody may wait for it any more."""
         if self._waiting.get(number) is asked:
-            self._send(number, asked, *((f"unread: {why}", None) if why else (said, answer)))
+            self._send(number, asked, f"unread: {why}" if why else said, bool(why or asked.unread))
 
-    def _send(self, number: int, asked: _Asked, said: str, answer: Union[Answer, Refusal, None]) -> None:
+    def _send(self, number: int, asked: _Asked, said: str, is_unread: bool) -> None:
         """Sends a scan's answer to the scanner and the tills."""
         del self._waiting[number]
         self.next = number + 1
-        self.unread += answer is None
+        self.unread += is_unread
         if self.scanner:
             self.scanner.tell(self._line(number, said, asked.time, self.scanner.form))
         if self.watchers:
             self._tell(number, said, asked.time)
         self._make_room()
-        self.seen(answer, asyncio.get_running_loop().time() - asked.since)
+        if not is_unread:
+            self.seen(said, asyncio.get_running_loop().time() - asked.since)
 
     def _tell(self, number: int, said: str, at: Optional[float] = None) -> None:
         for form in {it.form for it in self.watchers}:
@@ -264,11 +256,11 @@ def _why_old(age: float) -> str:
 class Scans:
     """The lanes of a gateway by their names. They share one lane of the hub, since its answers depend on the text alone."""
 
-    def __init__(self, hub: Hub, elements: bool, most: int = 256) -> None:
+    def __init__(self, hub: Hub, most: int = 256) -> None:
         self.lanes: Dict[str, ScanLane] = {}
-        self.seen: Seen = lambda answer, seconds: None
+        self.seen: Seen = lambda said, seconds: None
         self.journal: Optional[Journal] = None
-        self._hub, self._elements, self._most = hub, elements, most
+        self._hub, self._most = hub, most
 
     def lane(self, name: str) -> ScanLane:
         """The lane of this name; it is made at the first call.
@@ -283,7 +275,7 @@ class Scans:
                 self.lanes = {name: lane for name, lane in self.lanes.items() if lane.scanner or lane.watchers}
             if len(self.lanes) >= self._most:
                 raise ValueError(f"there are {self._most} lanes")
-            self.lanes[name] = ScanLane(name, self._hub.lane(0), self._elements)
+            self.lanes[name] = ScanLane(name, self._hub.lane(0))
             self.lanes[name].seen, self.lanes[name].journal = self.seen, self.journal
         return self.lanes[name]
 

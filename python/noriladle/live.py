@@ -27,7 +27,7 @@ import contextlib
 import os
 import signal
 from collections import OrderedDict, deque
-from dataclasses import dataclass
+from dataclasses import dataclass, field
 from types import TracebackType
 from typing import AsyncIterator, Deque, Iterable, List, Optional, Sequence, Tuple, Type, Union, cast
 
@@ -67,12 +67,24 @@ class Reply:
     number: Optional[int]
     """The row's number in its lane, from 0. None for the text of a scanner, for a line that is neither (17, 18, 39 or 44),
     and for a row after the lane's last number (35)."""
-    answer: Union[Answer, Refusal]
-    """What the row or the text says, or its error."""
+    said: str
+    """The answer as ``gs1_hub live`` writes it."""
+    _terms: int = field(repr=False)
+
+    @property
+    def answer(self) -> Union[Answer, Refusal]:
+        """What the row or the text says, or its error.
+
+        :raises AttributeError: the hub was run without elements.
+        """
+        if not self._terms:
+            raise AttributeError("a reply of a hub without elements has what was said alone")
+        answer = _said_in(self.said.encode(), self._terms)
+        return _noted(answer, "row") if isinstance(answer, Refusal) and self.number is not None else answer
 
     def __str__(self) -> str:
         """The line of ``gs1_hub live``, except that it also has the lane of errors 39 and 44."""
-        return f"{self.lane} {'-' if self.number is None else self.number} {self.answer}"
+        return f"{self.lane} {'-' if self.number is None else self.number} {self.answer if self._terms else self.said}"
 
 
 class Lane:
@@ -124,7 +136,7 @@ class Hub:
     ``year``, 1951 to 2149, is the reference year for dates, and ``ais`` says which Application Identifiers are accepted.
     The process has at most ``most`` rows (1 or more) at a time; later ones wait, in the order of the calls. ``program`` is
     the path of ``gs1_hub``, or the words that start it: without it the environment's ``GS1_HUB``, or ``gs1_hub`` of the
-    ``PATH``.
+    ``PATH``. Without ``elements`` a reply has only ``said``, which is then for people.
 
     The end of the block waits for all replies. If an exception ends the block, the process is killed.
 
@@ -142,15 +154,17 @@ class Hub:
         ais: Ais = "all",
         program: Union[str, Sequence[str], None] = None,
         most: int = 1024,
+        elements: bool = True,
     ) -> None:
         if not (1 <= lanes <= 16 and 1 <= workers <= 16 and 1951 <= year <= 2149 and most >= 1):
             raise ValueError("1 to 16 lanes and workers, a year from 1951 to 2149, and at least 1 row at a time")
         found = program or os.environ.get("GS1_HUB") or "gs1_hub"
-        options = f"live --elements --lanes {lanes} --workers {workers} --year {year} --ais {ais}".split()
+        options = f"live {'--elements ' * elements}--lanes {lanes} --workers {workers} --year {year} --ais {ais}".split()
         self._words = [*([found] if isinstance(found, str) else found), *options]
         self.lanes = lanes
         self._most = most
-        self._terms = _terms(year, ais)
+        self.elements = elements
+        self._terms = _terms(year, ais) if elements else 0
         self._is_entered = False
         self._process: Optional[_Process] = None
 
@@ -307,17 +321,14 @@ class _Process(asyncio.SubprocessProtocol):
     def _take(self, line: bytes) -> None:
         """Gives a line to the call whose row it answers. Lines come in the order of the rows."""
         asked, reply = self._sent[0]
-        lane, number, text = line.split(b" ", 2)
-        if lane not in (b"-", b"%d" % asked) or number not in (b"-", b"%d" % self._numbers[asked]):
+        lane, number, said = line.decode("ascii").split(" ", 2)
+        if lane not in ("-", str(asked)) or number not in ("-", str(self._numbers[asked])):
             raise ValueError("of another row")
-        answer = _said_in(text, self._terms)
-        if isinstance(answer, Refusal) and number != b"-":
-            answer = _noted(answer, "row")
         # Nothing fails from here on, so no row leaves the list without its reply.
         self._sent.popleft()
         if not reply.done():
-            reply.set_result(Reply(asked, None if number == b"-" else int(number), answer))
-        self._numbers[asked] += number != b"-"
+            reply.set_result(Reply(asked, None if number == "-" else int(number), said, self._terms))
+        self._numbers[asked] += number != "-"
         while self._waiting and len(self._sent) < self._most:
             following, (lane_of_it, record) = self._waiting.popitem(last=False)
             if not following.done():

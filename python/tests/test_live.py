@@ -79,6 +79,21 @@ def test_tells_elements_apart(text):
     run(test())
 
 
+def test_without_elements():
+    """A reply has what the program says, for people, and no answer. With elements it has both."""
+    async def test():
+        texts = [EAN13, "]C110A=B\x1d21C", "]E09501101530004"]
+        async with Hub(1, 1, 2026, elements=False) as hub, Hub(1, 1, 2026) as other:
+            for_people, for_programs = [[await it.lane(0).read(text) for text in texts] for it in (hub, other)]
+        assert [it.said for it in for_people] == [str(READ), "]C1 (10)A=B(21)C", "refused 3 CheckDigit"]
+        assert [it.said for it in for_programs] == ["]E0 01=09501101530003", "]C1 10=A=B\t21=C", "refused 3 CheckDigit"]
+        assert [*map(str, for_people)] == [*map(str, for_programs)] == [f"0 0 {READ}", "0 - ]C1 (10)A=B(21)C", "0 - refused 3 CheckDigit"]
+        for it in for_people:
+            with pytest.raises(AttributeError, match="without elements"):
+                it.answer
+    run(test())
+
+
 @pytest.mark.parametrize("text, wanted", [
     ("]E09501101530003", "1 - ]E0 (01)09501101530003"),
     (b"]C110AB\x1d21C", "1 - ]C1 (10)AB(21)C"),

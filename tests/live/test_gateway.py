@@ -36,11 +36,17 @@ def test_socat(gateway, kind):
     assert os.stat(gateway.unix).st_mode & 0o777 == 0o660
 
 
-def test_elements(tmp_path):
-    with Gateway(tmp_path, "--elements") as gateway, gateway.connect() as client:
-        assert client.ask(ROW) == "0 ]E0 01=09501101530003\n"
+@pytest.mark.parametrize("words, gtin, two", [((), "(01)09501101530003", "(10)A=B(21)C"), (("--elements",), "01=09501101530003", "10=A=B\t21=C")])
+def test_elements(tmp_path, words, gtin, two):
+    """In the answers to rows, and in those to scans, as the program writes them; the gateway's own scan is answered too."""
+    with Gateway(tmp_path, "--metrics", "0", *words) as gateway, gateway.connect() as client, gateway.unix_client() as scanner:
+        assert client.ask(ROW) == f"0 ]E0 {gtin}\n"
         assert client.ask(b"100\n") == "1 refused 19 Blank\n"
-        assert client.ask(b"^10A=B^21C\n") == "- - 10=A=B\t21=C\n"
+        assert client.ask(b"^10A=B^21C\n") == f"- - {two}\n"
+        scanner.send(b"scan till-1\n0\n0 ]E09501101530003\n1 ]C110A=B^21C\n2 ]E09501101530004\n")
+        assert [scanner.line() for _ in range(4)] == ["0 next\n", f"0 ]E0 {gtin}\n", f"1 ]C1 {two}\n", "2 refused 3 CheckDigit\n"]
+        assert page(gateway, "/readyz") == (200, "ready\n")
+        assert gateway.numbers()['noriladle_refusals_total{number="3"}'] == "1"
 
 
 def test_texts_of_scanners(gateway):

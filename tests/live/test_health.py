@@ -70,6 +70,7 @@ def test_the_numbers_of_a_lane(gateway):
         values = gateway.numbers()
         assert {name: values[f'noriladle_{name}_total{{lane="till-1"}}'] for name in ("scans", "unread", "lost", "scanners_refused")} == {
             "scans": "3", "unread": "1", "lost": "3", "scanners_refused": "1"}
+        assert values["noriladle_answers_total"] == "2" and not [name for name in values if name.startswith("noriladle_refusals")]
 
 
 def test_the_histogram_and_the_version(gateway):

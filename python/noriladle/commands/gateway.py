@@ -111,7 +111,7 @@ def run(words: argparse.Namespace) -> int:
     _raise_limit(2 * words.connections + 512)
     _service.keep_buffers()
     with _taken(words.unix):
-        why = asyncio.run(_run(Hub(words.lanes, words.workers, words.year, ais=words.ais), words))
+        why = asyncio.run(_run(Hub(words.lanes, words.workers, words.year, ais=words.ais, elements=words.elements), words))
     return REFUSED if why else RIGHT
 
 
@@ -185,7 +185,7 @@ async def _run(hub: Hub, words: argparse.Namespace) -> str:
         ended = asyncio.ensure_future(hub.ended())
         for number in (signal.SIGTERM, signal.SIGINT):
             loop.add_signal_handler(number, ended.cancel)
-        gateway = Gateway(hub, words.idle, words.elements, _kept(words), Places(words.connections, words.each), log, metrics, words.rights)
+        gateway = Gateway(hub, words.idle, _kept(words), Places(words.connections, words.each), log, metrics, words.rights)
         if words.journal:
             gateway.scans.journal = Journal(words.journal, words.journal_most << 20, words.journal_full == "go-on", log, metrics)
         health = Health(lambda: _trip(gateway, ended), metrics)
