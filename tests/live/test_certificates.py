@@ -102,6 +102,15 @@ def test_a_renewal_that_has_expired(renewed, authority, tmp_path):
     assert f"{renewed.file}: the certificate expired on " in renewed.ends()
 
 
+def test_a_renewal_that_ends_earlier(renewed, authority, tmp_path):
+    """It is taken, and the number of its end with it."""
+    renewed.put(*pair(authority, tmp_path / "second", "second", "20"))
+    renewed.reload()
+    assert renewed.name() == "second"
+    end = float(renewed.gateway.numbers()["noriladle_certificate_end_timestamp_seconds"])
+    assert abs(end - time.time() - 20 * 86_400) < 100
+
+
 def test_connections_stay_and_no_handshake_fails_while_it_is_renewed(renewed, authority, tmp_path):
     """Twenty renewals, each by files that do not belong together for a while."""
     pairs = [pair(authority, tmp_path / name, name) for name in ("second", "third")]

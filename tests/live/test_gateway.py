@@ -12,6 +12,7 @@ import urllib.request
 import pytest
 
 from gateway_and_scanners import NORILADLE, ROW, Client, Gateway
+from noriladle._service import watchdog
 from program_and_rows import READ, noise, random_lanes
 
 LIMIT = 180
@@ -153,6 +154,18 @@ def test_idle(tmp_path):
             assert client.ask(ROW) == f"0 {READ}\n"
             client.send(b"11 1")
             assert client.lines.read() == b"closed: nothing came or was taken for 0.5 seconds\n"
+        # One that waits for the gateway is not idle, nor is a till.
+        till = gateway.watch("till-1")
+        with gateway.free_lane() as client:
+            os.kill(gateway.hub(), signal.SIGSTOP)
+            client.send(ROW)
+            time.sleep(1.2)
+            os.kill(gateway.hub(), signal.SIGCONT)
+            assert client.line() == f"1 {READ}\n"
+        with till, gateway.unix_client() as scanner:
+            assert scanner.ask(b"scan till-1\n") == "0 next\n"
+            scanner.send(b"0\n")
+            assert till.line() == "0 next\n"
         # One that sends and takes nothing has its lane until its answers have filled all buffers, and no longer.
         gateway.free_lane().__exit__()
         with flood(gateway):
@@ -365,6 +378,9 @@ def test_a_file_that_is_wrong_changes_nothing_at_work(tmp_path):
         file.write_text("idle = 0\n")
         gateway.process.send_signal(signal.SIGHUP)
         assert f"{file}:1: idle: '0' is no number of seconds above 0" in gateway.process.stderr.readline()
+        file.write_text("idle = 30\nlanes = 3\n")
+        gateway.process.send_signal(signal.SIGHUP)
+        assert gateway.process.stderr.readline().endswith(" lanes changes when the gateway is started again\n")
         assert client.ask(ROW) == f"1 {READ}\n"
     gateway.__exit__()
 
@@ -423,19 +439,29 @@ def test_it_stops_when_told(tmp_path, number):
                 os.kill(hub, 0)
 
 
-def test_it_answers_what_is_under_way_before_it_stops(tmp_path):
-    """A row and a scan that the hub has."""
+def test_the_watchdog_of_another_process(monkeypatch):
+    """Its time is none of this one's."""
+    monkeypatch.setenv("WATCHDOG_USEC", "600000")
+    for pid, wanted in ((os.getpid(), 0.6), (1, None)):
+        monkeypatch.setenv("WATCHDOG_PID", str(pid))
+        assert watchdog() == wanted
+
+
+@pytest.mark.parametrize("has_row", [True, False])
+def test_it_answers_what_is_under_way_before_it_stops(tmp_path, has_row):
+    """A scan that the hub has, and a row."""
     with Gateway(tmp_path) as gateway, gateway.free_lane() as client, gateway.unix_client() as scanner:
         assert scanner.ask(b"scan till-1\n") == "0 next\n"
         hub = gateway.hub()
         os.kill(hub, signal.SIGSTOP)
-        client.send(ROW)
+        if has_row:
+            client.send(ROW)
         scanner.send(b"0\n0 ]E09501101530003\n")
         time.sleep(0.3)
         gateway.process.send_signal(signal.SIGTERM)
         time.sleep(0.3)
         os.kill(hub, signal.SIGCONT)
-        assert client.lines.read() == f"1 {READ}\nclosed: the gateway stops\n".encode()
+        assert client.lines.read().decode() == f"1 {READ}\n" * has_row + "closed: the gateway stops\n"
         assert scanner.lines.read() == f"0 {READ}\nclosed: the gateway stops\n".encode()
 
 

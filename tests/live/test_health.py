@@ -46,11 +46,13 @@ def test_the_oldest_scan_of_each_lane(gateway):
             assert client.line() == "0 next\n"
         assert rows.ask(ROW) == f"0 {READ}\n"
         os.kill(gateway.hub(), signal.SIGSTOP)
-        scanner.send(b"0 " + EAN + b"\n1 " + EAN + b"\n")
+        scanner.send(b"0 " + EAN + b"\n")
         rows.send(ROW)
         time.sleep(1)
+        scanner.send(b"1 " + EAN + b"\n")
+        gateway.waits_for(**{'unanswered{lane="till-1"}': 2})
         values = gateway.numbers()
-        assert values['noriladle_unanswered{lane="till-1"}'] == "2" and values['noriladle_unanswered{lane="till-2"}'] == "0"
+        assert values['noriladle_unanswered{lane="till-2"}'] == "0"
         assert 0.9 < float(values['noriladle_oldest_seconds{lane="till-1"}']) < 2
         assert values['noriladle_oldest_seconds{lane="till-2"}'] == "0" and 0.9 < float(values['noriladle_oldest_seconds{lane="-"}']) < 2
         os.kill(gateway.hub(), signal.SIGCONT)

@@ -144,6 +144,9 @@ def test_tcp_leaves_places_to_the_unix_socket(tmp_path):
         assert near[-1].ask(ROW) == f"0 {READ}\n"
         for client in (*far, *near):
             client.__exit__()
+        time.sleep(0.5)
+        with gateway.connect() as client:
+            assert client.ask(ROW) == f"0 {READ}\n"
 
 
 def test_a_user_or_an_address_has_its_limit(tmp_path):
@@ -315,6 +318,38 @@ def test_a_scanner_that_floods(tmp_path, count):
         print(f"\n{count} floods: " + "; ".join(f"{when} median {statistics.median(its):.1f} ms, longest {max(its):.1f} ms" for when, its in times.items()))
         # On a busy machine a lane that is alone waits too.
         assert max(times["beside"]) < 100 + 2 * max(times["alone"])
+
+
+def test_many_lanes_that_wait(tmp_path):
+    """More than the turns that they share: each has its least share."""
+    with Gateway(tmp_path, "--each", "100", port=False) as gateway, contextlib.ExitStack() as stack:
+        scanners = [stack.enter_context(gateway.unix_client()) for _ in range(80)]
+        for number, scanner in enumerate(scanners):
+            assert scanner.ask(b"scan lane-%d\n" % number) == "0 next\n"
+        os.kill(gateway.hub(), signal.SIGSTOP)
+        for scanner in scanners:
+            scanner.send(b"0\n" + b"".join(b"%d %s\n" % (number, EAN) for number in range(20)))
+        time.sleep(0.3)
+        os.kill(gateway.hub(), signal.SIGCONT)
+        for scanner in scanners:
+            assert [scanner.line() for _ in range(20)] == [f"{number} {READ}\n" for number in range(20)]
+
+
+def test_more_lanes_than_there_are(tmp_path):
+    """Lanes that nobody uses any more make room for the 257th; one that a till watches stays, and so do those of scanners."""
+    with Gateway(tmp_path, "--connections", "600", "--each", "300", port=False) as gateway, contextlib.ExitStack() as stack:
+        till = stack.enter_context(gateway.watch("till-1"))
+        for number in range(256):
+            with gateway.unix_client() as client:
+                assert client.ask(b"scan lane-%d\n" % number) == "0 next\n"
+        for number in range(255):
+            assert stack.enter_context(gateway.unix_client()).ask(b"scan lane-%d\n" % number) == "0 next\n"
+        with gateway.unix_client() as late:
+            assert late.ask(b"scan lane-255\n") == "closed: there are 256 lanes\n"
+        with gateway.unix_client() as scanner:
+            assert scanner.ask(b"scan till-1\n") == "0 next\n"
+            scanner.send(b"0\n0 %s\n" % EAN)
+            assert [till.line(), till.line()] == ["0 next\n", f"0 {READ}\n"]
 
 
 def test_programs_share_the_rows_under_way(tmp_path, monkeypatch):

@@ -13,6 +13,7 @@ import urllib.request
 import pytest
 
 from gateway_and_scanners import NORILADLE, ROW, Client, Gateway, Serial
+from noriladle._log import Writer
 from program_and_rows import READ
 
 LIMIT = 150
@@ -117,6 +118,34 @@ def test_lines_without_room_are_counted(tmp_path, monkeypatch):
         assert b" %d log lines were dropped" % count in said
     os.close(end)
     os.close(unread)
+
+
+def test_levels_for_journald(tmp_path, monkeypatch):
+    """They stand in place of the time, which it adds itself."""
+    monkeypatch.setenv("JOURNAL_STREAM", "8:1")
+    file = tmp_path / "gateway.toml"
+    file.write_text("idle = 30\n")
+    gateway = Gateway(tmp_path, "--log", "all", "--config", str(file))
+    with gateway.connect() as client:
+        assert client.ask(ROW) == f"0 {READ}\n"
+        file.write_text("idle = 0\n")
+        gateway.process.send_signal(signal.SIGHUP)
+        said = [*iter(gateway.process.stderr.readline, f"<3>{file}:1: idle: '0' is no number of seconds above 0\n")]
+    assert said and all(re.match("<6>(connected|closed) peer=", line) for line in said)
+    gateway.process.terminate()
+    gateway.process.communicate(timeout=20)
+
+
+def test_a_line_that_is_taken_in_parts():
+    """By a socket that somebody else has set not to block."""
+    here, there = socket.socketpair()
+    with here, there, there.makefile() as read:
+        here.setblocking(False)
+        there.settimeout(20)
+        write = Writer(here.fileno())
+        for line in ("a" * 1_000_000, "b"):
+            write(line)
+        assert [len(read.readline()) for _ in range(2)] == [1_000_001, 2]
 
 
 def test_a_journal_that_was_stopped(tmp_path):

@@ -364,6 +364,15 @@ def test_what_no_scanner_and_no_till_sends(gateway, sent, why):
         assert any(till.line() == f"0 {GUM}\n" for _ in range(3))
 
 
+def test_why_a_scan_has_no_text(gateway):
+    """Its program says so: up to 200 bytes, and of these a till gets what can be printed."""
+    with gateway.watch("till-1") as till, gateway.unix_client() as scanner:
+        assert scanner.ask(b"scan till-1\n") == "0 next\n"
+        scanner.send(b"0\n0\tun\x1b[2Jplugged\x00\r\n1\t" + b"x" * 300 + b"\n")
+        said = ["0 unread: un[2Jplugged\n", f"1 unread: {'x' * 200}\n"]
+        assert [till.line() for _ in range(3)] == ["0 next\n", *said] and [scanner.line() for _ in range(2)] == said
+
+
 def test_more_scanners_than_lanes_of_the_hub(gateway):
     """Texts need no lane of their own."""
     clients = [gateway.unix_client() for _ in range(40)]

@@ -45,8 +45,9 @@ def until(lines, wanted, seconds=20):
 def test_lines_of_form_2(gateway):
     """The number, the time of the scan, and what it says; at once, and each five seconds, who is next, the time and the series."""
     with gateway.unix_client() as till, gateway.unix_client() as scanner:
+        begin = time.monotonic()
         till.send(b"watch till-1 2\n")
-        assert re.fullmatch(NEXT, till.line()).group(1, 3) == ("-", "-")
+        assert re.fullmatch(NEXT, till.line()).group(1, 3) == ("-", "-") and time.monotonic() - begin < 2
         scanner.send(b"scan till-1 2 0123abcd\n")
         hello = re.fullmatch(NEXT, scanner.line())
         assert hello.group(1, 3) == ("0", "0123abcd") and abs(float(hello[2]) - time.time()) < 1
