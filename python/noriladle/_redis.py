@@ -51,18 +51,16 @@ class _Connection:
         size = 0
         try:
             self._writer.write(b"".join(map(_packed, commands)))
-            while len(replies) < len(commands):
-                reply = self._replies.gets()
-                if reply is not False:  # No reply yet: a node never sends this.
-                    replies.append(reply)
-                    continue
-                some = await self._reader.read(1 << 16)
-                size += len(some)
-                if not some:
-                    raise ConnectionResetError("the node has ended the connection, or is silent")
-                if size > REPLY:
-                    raise TooMuch(f"a reply of more than {REPLY} bytes")
-                self._replies.feed(some)
+            for _ in commands:
+                while (reply := self._replies.gets()) is False:  # No reply yet: a node never sends this.
+                    some = await self._reader.read(1 << 16)
+                    size += len(some)
+                    if not some:
+                        raise ConnectionResetError("the node has ended the connection, or is silent")
+                    if size > REPLY:
+                        raise TooMuch(f"a reply of more than {REPLY} bytes")
+                    self._replies.feed(some)
+                replies.append(reply)
             return replies
         except BaseException:
             self.close()
@@ -94,10 +92,9 @@ class Redis:
         """The connections to each node that no call has."""
         self._slots: Dict[int, str] = {}
         """The address of the node that has a slot."""
-        self._asking: Optional[asyncio.Future[None]] = None
         self._asked: Dict[str, asyncio.Future[Any]] = {}
         self._fault: BaseException = OSError("no node has this lane")
-        self._told: Dict[str, float] = {}
+        self._told: Set[str] = set()
 
     async def ask(self, key: str, *words: Word) -> Any:
         """The reply to a command, by the node that has a key.
@@ -116,41 +113,33 @@ class Redis:
         """The address of the node that has a key, by the tag in its braces."""
         slot = binascii.crc_hqx(key.partition("{")[2].partition("}")[0].encode(), 0) % 16_384
         if slot not in self._slots:
-            await asyncio.shield(self.renew())
+            await self.renew()
         if slot not in self._slots:
             raise self._fault
         return self._slots[slot]
 
     async def streams(self, key: str, pattern: str) -> Set[str]:
         """The names that match a pattern, of streams on the node that has a key."""
-        found, cursor = set(), "0"
-        while True:
-            cursor, some = await self.ask(key, "SCAN", cursor, "MATCH", pattern, "COUNT", 1000, "TYPE", "stream")
+        found, cursor = set(), ""
+        while cursor != "0":
+            cursor, some = await self.ask(key, "SCAN", cursor or "0", "MATCH", pattern, "COUNT", 1000, "TYPE", "stream")
             found.update(some)
-            if cursor == "0":
-                return found
+        return found
 
     def tell(self, said: str) -> None:
         """Gives ``note`` an error, unless it had the same one just now."""
-        now = time.monotonic()
-        self._told = {it: when for it, when in self._told.items() if when > now - _SAME}
         if said not in self._told:
-            self._told[said] = now
+            self._told.add(said)
+            asyncio.get_running_loop().call_later(_SAME, self._told.discard, said)
             self._note(said)
 
     async def rest(self, fault: Exception) -> None:
         """After an error: asks for a newer map of the nodes, without waiting for it, and rests a little."""
         self.tell(str(fault))
-        self.renew()
+        asyncio.ensure_future(self.renew())
         await asyncio.sleep(random.uniform(0.05, 0.15))
 
-    def renew(self) -> asyncio.Future[None]:
-        """Asks for the map, one time for all callers."""
-        if self._asking is None or self._asking.done():
-            self._asking = asyncio.ensure_future(self._ask())
-        return self._asking
-
-    async def _ask(self) -> None:
+    async def renew(self) -> None:
         """Asks all addresses at once for the map; the first answer counts. If there is none, the old map stays. One that is
         still asked is not asked again: a handshake of TLS that is cancelled begins anew."""
         addresses = self._addresses.union(() if self._master else self._slots.values())
@@ -180,24 +169,20 @@ class Redis:
     async def _ask_at(self, address: str, commands: Sequence[Sequence[Word]]) -> List[Any]:
         free = self._free[address]
         try:
-            connection = free.pop() if free else await self._connect(address)
+            connection = free.pop() if free else await asyncio.wait_for(self._connect(address), _CONNECT)
             replies = await connection.ask(commands)
-        except OSError:
+        except (OSError, asyncio.TimeoutError) as fault:
             # Other connections to a node that has gone are dead too.
             while free:
                 free.pop().close()
-            raise
+            raise OSError(f"{address}: {fault or 'no answer'}") from fault
         free.append(connection)
         return replies
 
     async def _connect(self, address: str) -> _Connection:
         """A connection, which has logged in. Sentinels have no password."""
         host, _, port = address.rpartition(":")
-        opening = asyncio.open_connection(host.strip("[]"), int(port), ssl=self._tls, limit=1 << 20)
-        try:
-            connection = _Connection(*await asyncio.wait_for(opening, _CONNECT))
-        except asyncio.TimeoutError:
-            raise OSError(f"{address} does not answer") from None
+        connection = _Connection(*await asyncio.open_connection(host.strip("[]"), int(port), ssl=self._tls, limit=1 << 20))
         if self._login and not (self._master and address in self._addresses):
             said, = await connection.ask([self._login])
             if isinstance(said, Fault):

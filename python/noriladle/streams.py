@@ -98,14 +98,11 @@ class Worker:
         """By shard, its node, and the bytes of its largest stream."""
 
     async def run(self) -> None:
-        """Works until it must stop, and then ends what it has begun."""
-        serving = [asyncio.ensure_future(_Shard(self, shard).serve()) for shard in range(SHARDS)]
+        """Works until it must stop, or ``answer`` fails, and then ends what it has begun."""
         try:
-            await asyncio.gather(*serving)
+            await asyncio.gather(*(_Shard(self, shard).serve() for shard in range(SHARDS)))
         finally:
-            for it in serving:
-                it.cancel()
-            await asyncio.gather(*serving, return_exceptions=True)
+            self.stopping = True
 
 
 class _Shard:
@@ -113,9 +110,8 @@ class _Shard:
 
     def __init__(self, worker: Worker, shard: int) -> None:
         self._of, self._shop, self._shard = worker, worker.shop, shard
-        self._clock: Optional[int] = None
-        self._full = float("inf")
-        """Since when its node has had no memory left."""
+        self._clock = self._full = float("inf")
+        """The node's clock at the last look, and since when the node has had no memory left."""
         self._first = ">"
         """What it reads: rows that nobody has read, or `0`, those that it had read before a fault."""
         self._count = 1
@@ -145,33 +141,31 @@ class _Shard:
         lanes = await lanes_at(self._shop, self._shard)
         if not lanes:
             # The shard may have moved to another node.
-            self._shop.renew()
-        idle = 0 if self._clock is None or now < self._clock - 1 else IDLE
+            await self._shop.renew()
+        idle = 0 if now < self._clock - 1 else IDLE
+        streams = [*lanes, *map(_answers_of, lanes)]
         commands: List[List[Word]] = []
         for lane in lanes:
             commands += [["XGROUP", "CREATE", lane, GROUP, "0"], ["XTRIM", _answers_of(lane), "MAXLEN", "~", HELD],
-                         ["XAUTOCLAIM", lane, GROUP, self._of.name, idle, "0-0", "COUNT", 64, "JUSTID"],
-                         ["MEMORY", "USAGE", lane], ["MEMORY", "USAGE", _answers_of(lane)]]
-        replies = iter(await self._shop.ask_all(tag(self._shard), commands))
-        claimed: Dict[str, List[str]] = {}
-        sizes: Dict[str, int] = {}
-        is_full = False
-        for lane, made, kept, taken, *its in zip(lanes, *[replies] * 5):
-            is_full |= str(made).startswith("OOM")
-            sizes.update((it, size) for it, size in zip((lane, _answers_of(lane)), its) if isinstance(size, int))
+                         ["XAUTOCLAIM", lane, GROUP, self._of.name, idle, "0-0", "COUNT", 64, "JUSTID"]]
+        commands += [["MEMORY", "USAGE", it] for it in streams]
+        replies = await self._shop.ask_all(tag(self._shard), commands)
+        sizes = {it: size for it, size in zip(streams, replies[3 * len(lanes):]) if isinstance(size, int)}
+        await self._empty(sizes, any(str(it).startswith("OOM") for it in replies))
+        mine: List[str] = []
+        for lane, kept, taken in zip(lanes, replies[1::3], replies[2::3]):
             fault = next((it for it in (kept, taken) if isinstance(it, Fault)), None)
             if fault:
                 self._shop.tell(f"{lane} is not answered: {fault}")
-            else:
-                claimed[lane] = taken[1]
-        await self._empty(sizes, is_full)
-        for lane, name in [(lane, name) for lane, names in claimed.items() for name in names]:
-            self._of.claimed += 1
-            await self._take(lane, name)
-        if self._clock is None:
-            await self._tidy(list(claimed))
+                continue
+            mine.append(lane)
+            for name in taken[1]:
+                self._of.claimed += 1
+                await self._take(lane, name)
+        if not idle:
+            await self._tidy(mine)
         self._clock = now
-        return list(claimed)
+        return mine
 
     async def _tidy(self, lanes: Sequence[str]) -> None:
         """Looks for lanes of an earlier version, and removes consumers that have done nothing for a day. What one of
@@ -219,16 +213,14 @@ class _Shard:
 
     async def _take(self, lane: str, name: str) -> None:
         """Answers an entry that it has claimed, by itself, since it may be too long: then it is dropped unread."""
-        found: List[Any] = []
         try:
             found = await self._shop.ask(lane, "XRANGE", lane, name, name)
+            if found:
+                await self._give([(lane, found)])
         except TooMuch:
             self._of.dropped += 1
             self._shop.tell(f"{lane} has an entry that is too long, and is dropped: {name}")
-        if found:
-            await self._give([(lane, found)])
-        else:
-            await self._shop.ask_all(lane, [["XACK", lane, GROUP, name], ["XDEL", lane, name]])
+            await self._shop.ask(lane, "XDEL", lane, name)
 
     async def _give(self, found: Sequence[Tuple[str, Sequence[Tuple[str, Optional[List[str]]]]]]) -> None:
         """Writes the answers to entries and removes their rows, all or none. What was read before a fault may be gone."""
@@ -249,8 +241,8 @@ class _Shard:
         commands: List[List[Word]] = [[*words, "\n".join(lines)] for words, lines in told]
         for lane, done in names.items():
             commands += [["XACK", lane, GROUP, *done], ["XDEL", lane, *done]]
-        replies = await self._shop.ask_all(lane, [["MULTI"], *commands, ["EXEC"]])
-        for reply in [*replies, *(replies[-1] if isinstance(replies[-1], list) else [])]:
+        *_, done = map(whole, await self._shop.ask_all(lane, [["MULTI"], *commands, ["EXEC"]]))
+        for reply in done:
             whole(reply)
         count = sum(map(len, texts))
         self._of.given += count
@@ -319,13 +311,12 @@ class Till:
                 await self.shop.rest(fault)
             if self.number not in self._got:
                 self._wait()
-                continue
             while self.number in self._got:
                 self._kept.popleft()
                 self._sent.popleft()
                 self.number += 1
                 yield self.number - 1, self._got.pop(self.number - 1)
-            self._begin()
+                self._begin()
 
     def _begin(self) -> None:
         """An answer has come, or the program has asked."""

@@ -41,21 +41,18 @@ def run(words: argparse.Namespace) -> int:
 async def _run(words: argparse.Namespace) -> int:
     """Submits the rows that are there and waits for their answers, turn by turn, so no answer waits for a later row."""
     log = Log()
-    shop = shop_of(words, log)
-    till = Till(shop, words.lane, patience=words.patience, note=log.fault)
+    till = Till(shop_of(words, log), words.lane, patience=words.patience, note=log.fault)
     for lines in turns():
-        async for number, answer in till.read_all(line for line in lines if line):
+        texts = (line.decode("utf-8", "replace").rstrip("\r") for line in lines)
+        async for number, answer in till.read_all(filter(None, texts)):
             print(number, answer, flush=True)
-    await shop.close()
     return RIGHT
 
 
-def turns() -> Iterator[List[str]]:
+def turns() -> Iterator[List[bytes]]:
     """The lines of standard input, as many as each read gives. The last one may have no line end."""
     rest = b""
-    while True:
-        some = os.read(0, 65_536)
-        *lines, rest = (rest + some).split(b"\n") if some else (rest, b"")
-        yield [line.decode("utf-8", "replace").rstrip("\r") for line in lines]
-        if not some:
-            return
+    while some := os.read(0, 65_536):
+        *lines, rest = (rest + some).split(b"\n")
+        yield lines
+    yield [rest]

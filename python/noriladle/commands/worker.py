@@ -105,19 +105,20 @@ async def _run(words: argparse.Namespace, log: Log) -> int:
     worker, watch = _worker(shop, words.name, hub, of), Watch(shop, of)
     for number in (signal.SIGTERM, signal.SIGINT):
         asyncio.get_running_loop().add_signal_handler(number, setattr, worker, "stopping", True)
-    beside: List[asyncio.Future[None]] = []
     try:
         async with hub:
-            beside.append(asyncio.ensure_future(_service.keep_alive(lambda: hub.lane(0).read(""))))
+            beside = [_service.keep_alive(lambda: hub.lane(0).read(""))]
             if words.metrics is not None:
                 health = Health(watch.trip, of)
-                beside += map(asyncio.ensure_future, (health.keep(), watch.keep()))
+                beside += [health.keep(), watch.keep()]
                 try:
                     await serve(words.metrics, health, of, log.fault)
                 except OSError as fault:  # That the port is taken does not stop the worker.
                     log.fault(f"no metrics: {fault.strerror or fault}")
+            running = asyncio.gather(*beside)  # Until the loop ends.
             notify("READY=1")
             await worker.run()
+            running.cancel()
         log.note("stopped", worker=worker.name, answers=worker.given, claimed=worker.claimed, dropped=worker.dropped)
         return RIGHT
     except HubEnded as fault:
@@ -125,9 +126,6 @@ async def _run(words: argparse.Namespace, log: Log) -> int:
         return REFUSED
     finally:
         notify("STOPPING=1")
-        for it in beside:
-            it.cancel()
-        await shop.close()
 
 
 def _worker(shop: Shop, name: str, hub: Hub, of: Metrics) -> Worker:
