@@ -169,6 +169,7 @@ def test_a_till_is_started_again():
                     break
             second = Till(shop, "3", first.series, 1000)
             got += [answer async for answer in second.read_all(asked["3"][1000:])]
+            assert second.lost == second.strange == 0
             await shop.close()
             return got
 
@@ -318,6 +319,7 @@ def test_a_row_alone():
         assert got == [answer for _, answer in wanted["3"]]
         nothing_left(cluster.address, ["3"])
         assert int(ask(cluster.ports[0], "XLEN", keys.answers("3"))) < 200
+        assert ask(cluster.ports[0], "XPENDING", keys.rows("3"), "workers").split()[0] == "0"
         workers.end()
 
 

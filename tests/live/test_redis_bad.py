@@ -85,10 +85,12 @@ def test_no_answer_waits_for_a_later_row():
         words = [*NORILADLE, "till", "--redis", cluster.address, "3"]
         with subprocess.Popen(words, stdin=subprocess.PIPE, stdout=subprocess.PIPE, text=True) as till:
             for number in range(20):
-                till.stdin.write(f"{EAN13}\r\n\n")
+                till.stdin.write(f"{EAN13}\r\n\r\n")
                 till.stdin.flush()
                 assert till.stdout.readline() == f"{number} {READ}\n"
             assert till.communicate("100", timeout=10)[0] == "20 refused 19 Blank\n"
+        ran = subprocess.run(words, input=b"\xff\n100\r\n", capture_output=True, timeout=10)
+        assert (ran.returncode, ran.stdout) == (0, b"0 refused 18 BadRuns\n1 refused 19 Blank\n")
 
 
 def locked(cluster, *lanes):
@@ -97,6 +99,14 @@ def locked(cluster, *lanes):
     file = cluster.root / "users.acl"
     file.write_text(told.replace("#HASH", "#" + hashlib.sha256(b"open").hexdigest()))
     return told
+
+
+def let_in(cluster, *lanes):
+    """Gives a node that runs these users."""
+    for line in locked(cluster, *lanes).splitlines()[1:]:
+        words = line.replace("#HASH", ">open").replace("(", " (").split("(")
+        rules = [*words[0].split(), *("(" + it.strip() for it in words[1:])]
+        assert ask(cluster.ports[0], "ACL", "SETUSER", *rules[1:]) == "OK", rules
 
 
 @pytest.mark.limit(60)
@@ -156,10 +166,7 @@ def test_what_the_password_of_a_till_may_do():
     other = "nl:{5}:rows:4", "nl:{5}:answers:4", "shop:{3}:rows", "nl:x"
     with Cluster(nodes=1) as cluster:
         port = cluster.ports[0]
-        for line in locked(cluster, "3").splitlines()[1:]:
-            words = line.replace("#HASH", ">open").replace("(", " (").split("(")
-            rules = [*words[0].split(), *("(" + it.strip() for it in words[1:])]
-            assert ask(port, "ACL", "SETUSER", *rules[1:]) == "OK", rules
+        let_in(cluster, "3")
         asked = [(command, key, words) for command in ask(port, "COMMAND", "LIST").split() for key in (ROWS, ANSWERS, *other)
                  for words in ([key, "*", "a", "b"], [key, "1", "2", "3"], ["STREAMS", key, "0"], ["1", key], [key], [])]
 
@@ -176,6 +183,17 @@ def test_what_the_password_of_a_till_may_do():
         mine = {(name, key) for name, key in allowed if key in (ROWS, ANSWERS) and name not in ("ping", "auth", "hello", "quit", "reset")}
         assert mine == {("xadd", ROWS), ("xrange", ROWS), ("xread", ANSWERS), ("xtrim", ANSWERS)}
         assert {name for name, key in allowed if not key} <= {"ping", "auth", "hello", "quit", "reset", "cluster|slots"}
+
+
+def test_what_the_password_of_a_worker_may_not_do():
+    """It reaches streams of lanes alone, and neither removes a key nor changes, stops or searches the node."""
+    with Cluster(nodes=1) as cluster:
+        let_in(cluster, "3")
+        for words in """FLUSHALL;DEL ROWS;UNLINK ROWS;SET ROWS x;GET ROWS;EXPIRE ROWS 1;RENAME ROWS x;KEYS *;CONFIG GET *;SHUTDOWN;EVAL x 0;ACL LIST;
+                CLIENT LIST;MONITOR;DEBUG SLEEP 1;REPLICAOF NO ONE;XADD x * a b;XGROUP DESTROY ROWS workers;XSETID ROWS 9-9""".split(";"):
+            said = ask(cluster.ports[0], "ACL", "DRYRUN", "worker", *words.replace("ROWS", ROWS).split())
+            assert "has no permissions to" in said, (words, said)
+        assert ask(cluster.ports[0], "ACL", "DRYRUN", "worker", "XACK", ROWS, "workers", "1-0") == "OK"
 
 
 @pytest.mark.limit(60)

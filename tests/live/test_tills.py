@@ -1,6 +1,9 @@
 """What breaks tills over Redis: each fault, with real nodes and workers, and the errors of the tills. Needs gcc and pgrep."""
 import asyncio
+import os
 import random
+import re
+import signal
 import socket
 import subprocess
 import time
@@ -262,11 +265,112 @@ def test_rows_that_only_wait_are_submitted_again_late():
         while time.monotonic() < begin + 11:
             await asyncio.sleep(0.2)
             assert till.repeated == 0 and await shop.ask(ROWS, "XLEN", ROWS) <= 2
+        looks = re.search(r"cmdstat_xrange:calls=(\d+)", await shop.ask("", "INFO", "commandstats"))
+        assert 3 <= int(looks[1]) <= 8  # One in 1.5 to 2 seconds.
         await asyncio.sleep(begin + 16 - time.monotonic())
         assert till.repeated == 300 and await shop.ask(ROWS, "XLEN", ROWS) == 4
         with Workers(node.address, 1):
             assert await reading == (0, READ) and [it async for it in answers] == [(n, READ) for n in range(1, 300)]
         assert till.lost == 0 and said == ["lane 3: no worker answers"] * 2
+    with_node(test)
+
+
+def test_a_till_takes_no_more_rows_than_it_may_keep():
+    """The others stay with its program until there are answers."""
+    async def test(shop, _):
+        given = []
+        reading = asyncio.ensure_future(Till(shop, "3", most=16).read_all(given.append(n) or EAN13 for n in range(100)).__anext__())
+        await asyncio.sleep(1)
+        assert len(given) == 16
+        reading.cancel()
+    with_node(test)
+
+
+def test_an_answer_of_the_same_moment():
+    """Its ID may have the millisecond of its row: the till reads it at once, and does not find it when it looks."""
+    async def test(shop, _):
+        till = Till(shop, "3")
+        reading = asyncio.ensure_future(till.read(EAN13))
+        while not await shop.ask(ROWS, "XLEN", ROWS):
+            await asyncio.sleep(0.01)
+        (name, _), = await shop.ask(ROWS, "XRANGE", ROWS, "-", "+")
+        begin, line = time.monotonic(), f"{keys.mark(EAN13)} {READ}"
+        await shop.ask(ANSWERS, "XADD", ANSWERS, f"{name.partition('-')[0]}-0", "s", till.series, "n", 0, "a", line)
+        assert await reading == READ and time.monotonic() - begin < 1
+    with_node(test)
+
+
+def test_errors_are_reported_once():
+    """A node that is down makes many of them; the same one is reported once in ten seconds."""
+    async def test(said):
+        with pytest.raises(NoAnswer):
+            await Till(keys.Shop([f"127.0.0.1:{free_ports(1)[0]}"], note=said.append), "3", patience=2).read(EAN13)
+        assert said and len(said) == len(set(said))
+
+    asyncio.run(test([]))
+
+
+@pytest.mark.limit(40)
+def test_connections_to_a_node_that_was_gone():
+    """Those that were open before are dead: one call waits for one of them, and the next has a new one."""
+    async def test():
+        silent = []
+
+        async def serve(reader, writer):
+            mine = len(silent)
+            while (words := await reader.read(1000)) and len(silent) == mine:
+                writer.write(b"-ERR This instance has cluster support disabled\r\n" if b"SLOTS" in words else b"+PONG\r\n")
+            await reader.read()
+
+        server = await asyncio.start_server(serve, "127.0.0.1", 0)
+        shop = keys.Shop([f"127.0.0.1:{server.sockets[0].getsockname()[1]}"])
+        assert await asyncio.gather(*(shop.ask("", "PING") for _ in range(5))) == ["PONG"] * 5
+        silent.append(True)
+        with pytest.raises(OSError, match=r"^127.0.0.1:\d+: the node has ended the connection, or is silent$"):
+            await shop.ask("", "PING")
+        begin = time.monotonic()
+        assert await shop.ask("", "PING") == "PONG" and time.monotonic() - begin < 1
+        await shop.close()
+        server.close()
+
+    asyncio.run(test())
+
+
+def test_many_entries_of_a_dead_worker():
+    """Another claims many at each look, and does not take a second for each."""
+    async def test(shop, node):
+        await shop.ask_all(ROWS, [["XADD", ROWS, "*", "s", "e", "n", 2 * n, "t", EAN13] for n in range(100)])
+        await shop.ask(ROWS, "XGROUP", "CREATE", ROWS, "workers", "0")
+        await shop.ask(ROWS, "XREADGROUP", "GROUP", "workers", "gone", "STREAMS", ROWS, ">")
+        with Workers(node.address, 1):
+            assert await Till(shop, "4").read(EAN13) == READ
+            until = time.monotonic() + 10
+            while await shop.ask(ROWS, "XLEN", ROWS):
+                assert time.monotonic() < until
+                await asyncio.sleep(0.1)
+    with_node(test)
+
+
+@pytest.mark.parametrize("number", [signal.SIGTERM, signal.SIGINT])
+def test_both_signals_end_a_worker_regularly(number):
+    async def test(shop, node):
+        with Workers(node.address, 1) as workers:
+            assert await Till(shop, "3").read(EAN13) == READ
+            worker = workers.running.pop("worker0")
+            worker.send_signal(number)
+            said = await asyncio.to_thread(worker.communicate)
+            assert worker.returncode == 0 and "stopped worker=worker0 answers=1 claimed=0 dropped=0" in said[1]
+    with_node(test)
+
+
+def test_the_user_in_the_environment():
+    async def test(shop, node):
+        await shop.ask("", "ACL", "SETUSER", "guest", "on", ">open", "~*", "+@all")
+        words = [*NORILADLE, "till", "--redis", node.address, "3", "--patience", "10"]
+        with Workers(node.address, 1):
+            ran = await asyncio.to_thread(subprocess.run, words, input=EAN13, capture_output=True, text=True,
+                                          env={**os.environ, "REDIS_USER": "guest", "REDIS_PASSWORD": "open"})
+        assert (ran.returncode, ran.stdout) == (0, f"0 {READ}\n")
     with_node(test)
 
 
@@ -386,6 +490,7 @@ def test_streams_of_rows_and_texts():
             till = Till(shop, "3")
             mixed = [row for text in asked["3"] for row in (text, "]E496385074")]
             got = [answer async for _, answer in till.read_all(mixed)]
+            assert till.lost == till.repeated == 0
             assert got[::2] == [answer for _, answer in wanted["3"]] and set(got[1::2]) == {GUM}
     with_node(test)
 
