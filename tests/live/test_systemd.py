@@ -27,10 +27,10 @@ def install(root):
     for file, into in [(ROOT / "package/noriladle", "usr/bin/noriladle"), (shutil.which(PROGRAM), "usr/bin/gs1_hub"),
                        (ROOT / "package/noriladle.sysusers", "usr/lib/sysusers.d/noriladle.conf"),
                        (ROOT / "package/70-noriladle-scanner.rules", "usr/lib/udev/rules.d/70-noriladle-scanner.rules"),
-                       *((unit, f"usr/lib/systemd/system/{unit.name}") for unit in (ROOT / "package/systemd").iterdir()),
                        *((file, f"etc/noriladle/{file.name}") for file in (ROOT / "package/etc").iterdir() if file.name != "scanner.toml")]:
         (root / into).parent.mkdir(parents=True, exist_ok=True)
         shutil.copy(file, root / into)
+    shutil.copytree(ROOT / "package/systemd", root / "usr/lib/systemd/system", dirs_exist_ok=True)
     for name in ("noriladle", "gs1_hub"):
         (root / "usr/bin" / name).chmod(0o755)
 

@@ -11,12 +11,14 @@ from program_and_rows import ROOT
 
 LIMIT = 60
 UNITS = sorted(ROOT.glob("package/systemd/*.service"))
+COMMON = ROOT / "package/systemd/noriladle-.service.d"
 
 
 def named(unit, folder):
     """A copy of a unit; an instance of a template has a name, here that of a device. What it runs need not be installed."""
     copy = folder / unit.name.replace("@.", "@dev-ttyACM0.")
     copy.write_text(unit.read_text().replace("/usr/bin/noriladle ", f"{shutil.which('true')} "))
+    shutil.copytree(COMMON, folder / COMMON.name)
     return copy
 
 
@@ -41,7 +43,7 @@ def test_security(unit, tmp_path):
 @pytest.mark.parametrize("unit", UNITS, ids=lambda unit: unit.name)
 def test_what_a_unit_has(unit):
     """Readiness, a watchdog, a user of its own, and a stop that lets the service end by itself."""
-    lines = unit.read_text().splitlines()
+    lines = [line for file in (unit, *COMMON.iterdir()) for line in file.read_text().splitlines()]
     assert {"Type=notify", "DynamicUser=yes", "ProtectSystem=strict", "StartLimitIntervalSec=60"} <= set(lines)
     assert any(line.startswith("WatchdogSec=") for line in lines) and any(line.startswith("TimeoutStopSec=") for line in lines)
     if "scanner" not in unit.name:  # A scanner's program has no other beside it.
