@@ -1,17 +1,8 @@
-#!/usr/bin/env python3
-"""Makes manual pages and completions of a program's own help: package/pages.py PROGRAM FOLDER [SECONDS]
-
-PROGRAM is gs1_hub or noriladle. Writes into FOLDER PROGRAM.1 and PROGRAM-COMMAND.1 for each command, and the completions
-PROGRAM.bash and PROGRAM.zsh. All that they say of commands and options stands in `--help`. SECONDS since 1970 are the date of the
-pages, that of today if none are given.
-"""
-
+"""Makes manual pages and completions of a program's own help. All that they say of commands and options stands in `--help`."""
 import os
 import re
 import subprocess
 import sys
-import time
-
 
 FILES = {"FILE", "TTF", "LIST", "PICTURE"}
 """What stands for the name of a file."""
@@ -25,17 +16,11 @@ class Help:
         blocks = text.rstrip("\n").split("\n\n")
         self.about = blocks[0]
         self.usage = re.sub(r"^Usage: ", "", blocks[1])
-        self.commands, self.arguments, self.options, self.after = [], [], [], []
-        for block in blocks[2:]:
-            heading, *lines = block.split("\n")
-            if heading == "Commands:":
-                self.commands = [re.match(r"  (\S+) +(.*)", line).groups() for line in lines]
-            elif heading == "Arguments:":
-                self.arguments = [re.match(r"  (\S+) +(.*)", line).groups() for line in lines]
-            elif heading == "Options:":
-                self.options = [option(line) for line in lines]
-            else:
-                self.after.append(block.split("\n"))
+        parts = {heading: lines for heading, *lines in (block.split("\n") for block in blocks[2:])}
+        self.commands, self.arguments = ([re.match(r"  (\S+) +(.*)", line).groups() for line in parts.pop(heading, ())]
+                                         for heading in ("Commands:", "Arguments:"))
+        self.options = [option(line) for line in parts.pop("Options:", ())]
+        self.after = [[heading, *lines] for heading, lines in parts.items()]
         if not self.options:
             sys.exit(f"a help of another form: {text}")
 
@@ -75,14 +60,10 @@ def manual(name, its, others, date, version):
     made = [f'.TH {roff(name.upper())} 1 "{date}" "Noriladle {roff(version)}" "User commands"']
     made += [".SH NAME", f"{roff(name)} \\- {roff(its.about)}"]
     made += [".SH SYNOPSIS", f".B {roff(its.usage)}"]
-    if its.commands:
-        made.append(".SH COMMANDS")
-        for command, about in its.commands:
-            made += [".TP", f".B {roff(command)}", roff(about)]
-    if its.arguments:
-        made.append(".SH ARGUMENTS")
-        for argument, about in its.arguments:
-            made += [".TP", f".I {roff(argument)}", roff(about)]
+    for heading, face, rows in (("COMMANDS", "B", its.commands), ("ARGUMENTS", "I", its.arguments)):
+        made += [f".SH {heading}"] if rows else []
+        for word, about in rows:
+            made += [".TP", f".{face} {roff(word)}", roff(about)]
     made.append(".SH OPTIONS")
     for names, value, about in its.options:
         value = f" \\fI<{roff(value)}>\\fR" if value else ""
@@ -184,24 +165,10 @@ def files_of(helps, date, version):
     return {**files, f"{name}.bash": bash(name, hub, commands), f"{name}.zsh": zsh(name, hub, commands)}
 
 
-def helps_of(program, name):
-    """The helps of a program that is run."""
+def helps_of(program):
+    """The helps of a program, by its name and those of its commands."""
     def told(*words):
         english = {**os.environ, "LC_ALL": "C.UTF-8"}
         return subprocess.run([program, *words, "--help"], stdout=subprocess.PIPE, check=True, text=True, env=english).stdout
     whole = told()
-    return {name: whole, **{command: told(command) for command, _ in Help(whole).commands}}
-
-
-def main():
-    program, folder = os.path.abspath(sys.argv[1]), sys.argv[2]
-    date = time.strftime("%Y-%m-%d", time.gmtime(int(sys.argv[3]) if len(sys.argv) > 3 else None))
-    version = subprocess.run([program, "--version"], stdout=subprocess.PIPE, check=True, text=True).stdout.split()[1]
-    os.makedirs(folder, exist_ok=True)
-    for file, text in files_of(helps_of(program, os.path.basename(program)), date, version).items():
-        with open(os.path.join(folder, file), "w", encoding="utf-8") as it:
-            it.write(text)
-
-
-if __name__ == "__main__":
-    main()
+    return {os.path.basename(program): whole, **{command: told(command) for command, _ in Help(whole).commands}}

@@ -1,6 +1,6 @@
 """Compares the manual pages and the completions that package/pages.py makes with the program's help.
 
-Usage: manual_pages.py PROGRAM FOLDER; FOLDER has what package/pages.py made. A page, as `man` prints it, must have each line of the help, in
+Usage: manual_pages.py PROGRAM FOLDER; package/pages.py makes them in FOLDER. A page, as `man` prints it, must have each line of the help, in
 its order, and no other options. bash and zsh must offer exactly the commands as the first word, and after it exactly the options of the
 command. bash must not offer an option again that is there already, nor any word in place of a number.
 """
@@ -9,12 +9,17 @@ import pty
 import re
 import subprocess
 import sys
+from pathlib import Path
+
+sys.path.insert(0, str(Path(__file__).resolve().parents[2] / "package"))
+from files import put_files  # noqa: E402
+from pages import files_of, helps_of  # noqa: E402
 
 PROGRAM, FOLDER = os.path.abspath(sys.argv[1]), os.path.abspath(sys.argv[2])
 NAME = os.path.basename(PROGRAM)
 HEADINGS = {"Commands:", "Arguments:", "Options:"}
 EMPTY = os.path.join(FOLDER, "empty")
-OPTION = re.compile(r"(?<![\w-])(--?[a-zA-Z]+)")
+OPTION = re.compile(r"(?<![\w-])(--?[a-zA-Z][a-zA-Z-]*)")
 
 
 def printed(words, **how):
@@ -102,13 +107,15 @@ def read_until(terminal, end):
 
 
 def main():
+    made = files_of(helps_of(PROGRAM), "2026-01-01", "2.0.0")
+    put_files(Path(FOLDER), {name: text.encode() for name, text in made.items()})
     texts = {NAME: printed([PROGRAM, "--help"])}
     commands = commands_of(texts[NAME])
     texts |= {f"{NAME}-{it}": printed([PROGRAM, it, "--help"]) for it in commands}
     os.makedirs(EMPTY, exist_ok=True)
     faults = [it for name, text in texts.items() for it in page_faults(name, text)]
-    made = {it for it in os.listdir(FOLDER) if it.endswith(".1")}
-    faults += [f"{it} is no page of a command, or is not there" for it in made ^ {f"{name}.1" for name in texts}]
+    pages = {it for it in made if it.endswith(".1")}
+    faults += [f"{it} is no page of a command, or is not there" for it in pages ^ {f"{name}.1" for name in texts}]
     asked = 0
 
     def offers(shell, words, found, wanted):
