@@ -92,8 +92,7 @@ def has_kit() -> bool:
 
 
 def file_of(name: str) -> bytes:
-    """A file of these sources: TARGET/gs1_hub, TARGET/libgs1.a or TARGET/libgs1.so with x86_64 or aarch64 as the target, x86_64_v2/gs1_hub, gs1_c.wasm with wasm64 or
-    wasm32, or wasm32/gs1_texts.wasm. It comes from release/, if that is of these sources. Otherwise the kit builds it.
+    """A file of these sources by its name in release/. It comes from there, if that is of these sources. Otherwise the kit builds it.
 
     :raises NoFile: there is none.
     """
