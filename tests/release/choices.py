@@ -114,7 +114,7 @@ def try_current(tests: Tests, tree: Tree) -> None:
     answer = (0, "released a b\n", "")
     tests.expect("the first run", tree.run("a", "b"), answer)
     tests.expect("what it left", tree.left(), KEPT)
-    tests.expect("the second", tree.run("a", "b"), answer)
+    tests.expect("the second, with blanks in a word", tree.run("a  b"), (0, "released a  b\n", ""))
     tests.expect("with a kit, which is not asked", tree.run("a", "b", kit=True, NORILADLE_ANEW="1"), answer)
     (tree.folder.parent / "link").symlink_to("tree/gs1_hub")
     tests.expect("through a link", tree.run("a", "b", start="../link"), answer)
