@@ -117,7 +117,10 @@ def test_without_modules(whole, tmp_path, bare):
         run = ran(whole, "labels", SHELF, "-o", str(out), *more, cache=tmp_path / "cache", env=bare)
         return run.returncode, run.stderr.splitlines()[-1], out.exists()
 
-    assert made("pdf") == (2, "noriladle: PDF needs reportlab: apt-get install python3-reportlab", False)
+    pip = f"{bare['VIRTUAL_ENV']}/bin/python3 -m pip install"
+    assert made("pdf") == (2, f"noriladle: PDF needs reportlab: {pip} reportlab", False)
+    run = ran(whole, "read", "none.png", cache=tmp_path / "cache", env=bare)
+    assert (run.returncode, run.stderr) == (2, f"noriladle: reading needs numpy and Pillow: {pip} numpy Pillow\n")
     for form in ("svg", "png", "zpl", "epl", "tspl"):
         pages = " on 1 page" if form in ("svg", "png") else ""
         assert made(form) == (0, f"21 labels{pages} in {tmp_path}/labels.{form}", True)
@@ -143,6 +146,9 @@ def test_without_a_font(monkeypatch):
     assert missing("pdf", False) == "PDF needs reportlab and a font: apt-get install python3-reportlab fonts-liberation"
     assert missing("zpl", False) == "ZPL needs a font: apt-get install fonts-liberation"
     assert missing("svg", True) == ""
+    monkeypatch.setattr(sys, "prefix", "/venv")
+    assert missing("pdf", False) == (f"PDF needs reportlab and a font: {sys.executable} -m pip install reportlab; "
+                                     "apt-get install fonts-liberation")
 
 
 def test_a_stale_release_is_said_in_one_line(clone, tmp_path):

@@ -19,8 +19,9 @@ import warnings
 from typing import TYPE_CHECKING, Any, Iterator, List, NamedTuple, Optional, Tuple
 
 from .. import Refusal, Symbol
+from .._needs import NUMPY, PDFTOPPM, PILLOW, sentence
 from .._shop import count_text, told
-from . import REFUSED, RIGHT, WRONG_WORDS, Progress, add_ais, add_year, data_of, tell
+from . import REFUSED, RIGHT, WRONG_WORDS, Progress, WrongWords, add_ais, add_year, data_of, tell
 
 if TYPE_CHECKING:
     from PIL import Image
@@ -62,7 +63,10 @@ class Unopened(Exception):
 
 def run(words: argparse.Namespace) -> int:
     """Reads each picture, and prints a line for each barcode."""
-    from .. import picture  # Says what you must install, before it opens any file.
+    needed = [NUMPY, PILLOW, *([PDFTOPPM] if any(name.lower().endswith(".pdf") for name in words.pictures) else [])]
+    if not (NUMPY.is_there() and PILLOW.is_there()):
+        raise WrongWords(sentence("reading", [it for it in needed if not it.is_there()]))
+    from .. import picture
 
     # Pillow warns about damage that does not keep it from reading.
     warnings.simplefilter("ignore")

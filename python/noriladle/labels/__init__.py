@@ -19,12 +19,12 @@ from typing import TYPE_CHECKING, Callable, Dict, Iterator, List, Mapping, Named
 from .. import Refusal, find
 from .._columns import Table, table_of
 from .._lists import MOST_LINES, Fault, Faults
+from .._needs import FONT, REPORTLAB, sentence
 from .._shop import count_text, said, sentence_of_lines, told, translated
 from ._articles import Article, articles_of
 from ._drawing import RESOLUTIONS, Cell, Drawing, Look, Warned, cell_of, rows_of
 from ._fonts import Fonts, fonts_of
 from ._layout import Item, Plan, drawn, module_of, plan_of
-from ._needs import missing
 from ._pages import Page, Placed, svg_of
 from ._stocks import KNOWN, Stock, stock_of
 from ._symbols import IDENTIFIERS, bars_of
@@ -149,6 +149,20 @@ class Labels:
         from ._dots import image_of
 
         return ((image_of(drawing, self.look.turned), article.copies) for article, drawing in self.drawings if article.copies)
+
+
+def missing(form: str, has_font: bool) -> str:
+    """What a format needs and this machine lacks, with what to do, in one line; empty if nothing is missing.
+
+    Each needs a font, and PDF reportlab too. ``has_font`` says that the person has named a font, so none needs to be
+    installed.
+    """
+    lacking = [] if form != "pdf" or REPORTLAB.is_there() else [REPORTLAB]
+    try:
+        lacking += [] if has_font or fonts_of() else [FONT]
+    except ValueError:
+        lacking.append(FONT)
+    return sentence(form.upper(), lacking)
 
 
 def _warning(name: str, found: Sequence[Tuple[Article, Warned]]) -> LabelWarning:
