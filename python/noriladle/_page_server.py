@@ -138,7 +138,6 @@ class _Handler(BaseHTTPRequestHandler):
     server: PageServer
     protocol_version = "HTTP/1.1"
     server_version, sys_version = SERVER, ""
-    timeout = WAIT
 
     def do_GET(self) -> None:
         """Sends a file."""

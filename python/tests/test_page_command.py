@@ -4,6 +4,7 @@ import http.server
 import os
 import socket
 import ssl
+import subprocess
 import threading
 import time
 from concurrent.futures import ThreadPoolExecutor
@@ -157,7 +158,6 @@ def test_no_connection_lasts(serve, monkeypatch):
 
 def test_it_waits_for_nobody(serve, monkeypatch):
     monkeypatch.setattr(_page_server, "WAIT", 0.2)
-    monkeypatch.setattr(_page_server._Handler, "timeout", 0.2)
     with socket.create_connection(("127.0.0.1", serve().port), 5) as slow:
         slow.sendall(b"GET / HT")
         assert slow.recv(1) == b""
@@ -216,6 +216,9 @@ def test_the_certificate_is_made_once_and_its_key_is_the_users(data):
     assert [path.stat().st_mode & 0o777 for path in (data, first.key)] == [0o700, 0o600]
     told = first.certificate.read_bytes(), first.key.read_bytes()
     assert b"KEY" not in told[0]
+    shown = subprocess.run(["openssl", "x509", "-in", str(first.certificate), "-noout", "-fingerprint", "-sha256", "-text"],
+                           capture_output=True, text=True, check=True).stdout
+    assert f"Fingerprint={first.fingerprint()}\n" in shown and f"IP:{SHARED}/255.255.255.255\n" in shown
     again = certificate_of(SHARED)
     assert (again.certificate.read_bytes(), again.key.read_bytes()) == told
     assert certificate_of("127.0.0.3").fingerprint() != first.fingerprint()
