@@ -116,6 +116,8 @@ def try_current(tests: Tests, tree: Tree) -> None:
     tests.expect("what it left", tree.left(), KEPT)
     tests.expect("the second, with blanks in a word", tree.run("a  b"), (0, "released a  b\n", ""))
     tests.expect("with a kit, which is not asked", tree.run("a", "b", kit=True, NORILADLE_ANEW="1"), answer)
+    (tree.out / "gs1_hub").chmod(0o644)
+    tests.expect("after a copy that keeps no permissions", tree.run("a", "b"), answer)
     (tree.folder.parent / "link").symlink_to("tree/gs1_hub")
     tests.expect("through a link", tree.run("a", "b", start="../link"), answer)
     tests.expect("from elsewhere", tree.run("a", "b", start=f"{tree.folder}/gs1_hub", before="cd /"), answer)
