@@ -110,14 +110,14 @@ def file_of(name: str) -> bytes:
 def built(name: str) -> bytes:
     """The same, built by the kit in any case.
 
-    :raises NoFile: the kit does not build it, and has said why; or there is none of this name.
+    :raises NoFile: the kit does not build it, and has said why; a tool is missing; or there is none of this name.
     """
     target, _, file = name.partition("/")
     crate, made = {"gs1_hub": ("gs1_hub", "gs1_hub"), "gs1_c.wasm": ("gs1_c", "gs1_c.wasm")}.get(file, ("gs1_c", "libgs1_c.a"))
     if name == "wasm32/gs1_c.wasm":
-        return lowered(built("wasm64/gs1_c.wasm"))
+        return _changed(built("wasm64/gs1_c.wasm"), "wasm-opt", *_LOWER)
     if name == "wasm32/gs1_texts.wasm":
-        return texts_only(built("wasm32/gs1_c.wasm"))
+        return _changed(built("wasm32/gs1_c.wasm"), "wasm-metadce", *_TEXTS)
     if not re.fullmatch(r"(x86_64|aarch64)/(gs1_hub|libgs1\.a|libgs1\.so)|x86_64_v2/gs1_hub|wasm64/gs1_c\.wasm", name):
         raise NoFile(f"there is no {name}", NO_INPUT)
     _run("package/prove", crate, target)
@@ -135,23 +135,11 @@ def _run(script: str, *words: str) -> None:
         raise NoFile(f"{script} could not build it, as it says above", 70)
 
 
-def lowered(module: bytes) -> bytes:
-    """The module of WebAssembly with addresses of 32 bits, for browsers and Node without larger ones.
-
-    :raises NoFile: there is no wasm-opt.
-    """
-    return _changed(module, "wasm-opt", *_LOWER)
-
-
-def texts_only(module: bytes) -> bytes:
-    """What the calls about texts need of a module of WebAssembly.
-
-    :raises NoFile: there is no wasm-metadce.
-    """
-    return _changed(module, "wasm-metadce", *_TEXTS)
-
-
 def _changed(module: bytes, tool: str, *words: str) -> bytes:
+    """A module of WebAssembly as a tool of binaryen changes it.
+
+    :raises NoFile: there is no such tool.
+    """
     if not shutil.which(tool):
         raise NoFile(f"there is no {tool}: apt-get install binaryen")
     with tempfile.TemporaryDirectory() as folder:

@@ -25,10 +25,11 @@ VERSION = (ROOT / "VERSION").read_text(encoding="ascii").strip()
 
 # Programs that say which they are. Long enough that gzip writes several blocks of the file.
 STUB = "#!/bin/sh\n" + "# a program of the release\n" * 3000 + f'[ "$1" = --version ] && echo "gs1_hub {VERSION}" || echo "released $*"\n'
+BUILT = '#!/bin/sh\necho "built $*"\n'
 PUT = 'while [ $# -gt 0 ]; do case $1 in -o) out=$2 ;; esac; shift; done\n'
 KIT = {
     "bin/rattle": f'{PUT}case $out in *.rlib) mkdir -p "$out" ;; *) echo >"$out" ;; esac\n',
-    "bin/rattle-link": f"""{PUT}printf '#!/bin/sh\\necho "built $*"\\n' >"$out" && chmod +x "$out"\n""",
+    "bin/rattle-link": f"{PUT}cat >\"$out\" <<'END' && chmod +x \"$out\"\n{BUILT}END\n",
     "bin/rt": "echo kit logic 0\n",
     "toolchain/bin/clang": "exit 0\n",
 }
@@ -220,17 +221,27 @@ def try_files(tests: Tests, tree: Tree) -> None:
         tests.expect(what, tree.run(name, str(made), start="package/file", kit=kit), (status, "", f"package/file: {why}\n"))
         tests.expect(f"{what}: nothing is made", made.exists(), False)
 
-    tests.expect("package/file", (tree.run(name, str(made), start="package/file"), made.read_text(encoding="ascii")), ((0, "", ""), STUB))
+    tests.expect("package/file", (tree.run(name, str(made), start="package/file"), made.read_text(encoding="ascii"), os.access(made, os.X_OK)),
+                 ((0, "", ""), STUB, True))
     made.unlink()
     refused("package/file without one for arm64", "aarch64/libgs1.so", f"release/ has no aarch64/libgs1.so; {more}")
-    tests.expect("package/release --compare", tree.run("--compare", start="package/release", kit=True)[:2],
-                 (1, "release/ compared with what is proved here: 1 the same, 4 not\n1 passed, 4 failed\n"))
+    tree.release(BUILT)
+    told = tree.manifest.read_text(encoding="ascii")
+    for manifest, counts in ((told, "1 passed, 9 failed"), (told.replace(f" {len(BUILT)}\n", " 1\n"), "0 passed, 10 failed")):
+        tree.manifest.write_text(manifest, encoding="ascii")
+        tests.expect("package/release --compare", tree.run("--compare", start="package/release", kit=True)[:2], (1, f"{counts}\n"))
+    tree.release(STUB)
     whole = tree.packed.read_bytes()
-    tree.packed.write_bytes(whole[:100])
-    refused("package/file of a damaged release", name, f"release/{name}.gz is missing or damaged; {BACK}; {more}")
+    for damaged in (whole[:100], gzip.compress(b"another program")):
+        tree.packed.write_bytes(damaged)
+        refused("package/file of a damaged release", name, f"release/{name}.gz is missing or damaged; {BACK}; {more}")
     tree.packed.write_bytes(whole)
+    for path, text in ((tree.folder / "VERSION", "0.0.1\n"), (tree.source, "two\n")):
+        before = path.read_text(encoding="ascii")
+        path.write_text(text, encoding="ascii")
+        refused(f"package/file with another {path.name}, no kit", name, f"release/ has no {name} of these sources; {more}")
+        path.write_text(before, encoding="ascii")
     tree.source.write_text("two\n", encoding="ascii")
-    refused("package/file of other sources, no kit", name, f"release/ has no {name} of these sources; {more}")
     refused("package/file of what is nothing", "x86_64/other", "there is no x86_64/other", 64, True)
     tests.expect("package/release --compare, other sources", tree.run("--compare", start="package/release")[:2],
                  (0, "release/ is older than the sources, so it is not compared; package/release makes it anew\n0 passed, 0 failed\n"))
