@@ -260,7 +260,7 @@ def try_many(tests: Tests, tree: Tree) -> None:
 
 
 def added_by(launcher: pathlib.Path, program: pathlib.Path) -> float:
-    """The seconds between the fastest runs of both, in turn: other work on this machine slows these the least. A busy one needs more runs."""
+    """The seconds between the fastest runs of both, in turn. Other work on this machine slows these the least."""
     best = {launcher: 60.0, program: 60.0}
     for count in range(300):
         for it in best:
