@@ -7,11 +7,10 @@ import pytest
 pytest.importorskip("reportlab")
 
 import noriladle
-from noriladle import Kind, Refusal, draw_label, labels
+from noriladle import Kind, find_dots, label_symbol, labels
 from noriladle.labels import Faults, Look, make, read_list, stock_of
-from noriladle.labels._dots import _zpl_row
-from noriladle.labels._drawing import Box, Text
-from noriladle.labels._symbols import bars_of
+from noriladle.labels._dots import Image as Dots
+from noriladle.labels._dots import _zpl_row, image_of
 from PIL import Image
 
 LIST = "ean;name;price;copies\n9501101530003;Müsli;1,95 €;\n96385074;Kaugummi;0,90 €;3\n012345000065;Cola;1,10 €;0\n".encode()
@@ -124,11 +123,25 @@ def test_bars_that_have_no_room():
 def test_modules_are_whole_dots_next_to_what_is_wanted():
     def dots(stock, **named):
         (_, drawing), = made(b"gtin\n9501101530003\n", stock, look=Look(**named)).drawings
-        return min(box.width for box in drawing.boxes)
+        return min(width for _, _, width, _ in drawing.boxes)
     assert [dots("L7160", resolution=it) for it in (203, 300, 600)] == [3, 4, 8]  # 0.375, 0.339, 0.339 mm
-    assert [dots("L7160", resolution=600, module_mm=it) for it in (0.1, 0.3, 0.4)] == [7, 7, 9]
+    assert [dots("L7160", resolution=600, module_mm=it) for it in (0.264, 0.3, 0.4)] == [7, 7, 9]
     assert dots("L7651", resolution=600) == 7
-    assert dots("L7163", resolution=300, module_mm=2) == 7  # 0.593 mm: the largest up to 0.66.
+    assert dots("L7163", resolution=300, module_mm=0.66) == 7  # 0.593 mm: the largest up to 0.66.
+
+
+@pytest.mark.parametrize("look, data, told", [
+    (Look(module_mm=0.1), "gtin\n9501101530003\n", "its modules are 0.264 to 0.66 mm wide"),
+    (Look(module_mm=0.8), "gtin\n9501101530003\n", "its modules are 0.264 to 0.66 mm wide"),
+    (Look(module_mm=9), "gs1\n(10)A\n", "its modules are 0.264 to 1.016 mm wide"),
+    (Look(bars_mm=4.9), "gtin\n9501101530003\n", "bars are 5 to 100 mm high"),
+    (Look(bars_mm=101), "gtin\n9501101530003\n", "bars are 5 to 100 mm high"),
+    (Look(), "gtin,name,price\n9501101530003,x,1 234 567.95 Euro / Familienpack\n", "no room"),
+    (Look(), f"gtin,{','.join(f'line {n}' for n in range(1, 10))}\n9501101530003{',x' * 9}\n", "at most 8 further lines"),
+])
+def test_what_no_label_shows_is_refused(look, data, told):
+    (line, said), = faults(data, "L7160", look=look)
+    assert line == 2 and told in said
 
 
 def test_warnings():
@@ -153,13 +166,15 @@ def test_one_long_price_does_not_make_all_small():
     def size(extra):
         drawings = made(f"gtin,price\n9501101530003,1.95\n96385074,2.95\n012345000065,{extra}\n".encode(), "3474").drawings
         return max(text.size for text in drawings[0][1].texts)
-    assert size("3.95") == size("1 234 567.95 Euro / Familienpack")
+    assert size("3.95") == size("1 234 567.95 Euro")
 
 
 def test_prices_of_one_width_fill_their_column():
     (_, drawing), *_ = made(b"gtin,price\n9501101530003,1.95\n012345000065,3.95\n", "3474").drawings
     price = next(text for text in drawing.texts if text.text == "1.95")
-    assert price.wide > 0.99 * price.width
+    end = max(left + width for left, _, width, _ in drawing.boxes)
+    # A quiet zone of 7 modules, a millimetre, and a hundredth of the price.
+    assert end + 7 * 4 + 11 < price.left < end + 7 * 4 + 12 + 0.01 * price.wide
 
 
 def test_copies_and_the_first_cell():
@@ -175,82 +190,31 @@ def test_copies_and_the_first_cell():
         made(b"gtin,copies\n" + b"96385074,1000\n" * 101)
 
 
-@pytest.mark.parametrize("kind, text, digits", [
-    (Kind.EAN13, "9501101530003", "9501101530003"), (Kind.UPCA, "012345000065", "012345000065"), (Kind.EAN8, "96385074", "96385074"),
-    (Kind.UPCE, "012345000065", "01234565"), (Kind.UPCE, "012000003455", "01234505"), (Kind.UPCE, "012300000079", "01230739"),
-    (Kind.UPCE, "012340000091", "01234941"), (Kind.ITF14, "9501101530003", "09501101530003"),
-    (Kind.GS1128, "10A\x1d17261231", "(10)A(17)261231"),
-])
-def test_digits(kind, text, digits):
-    assert bars_of(kind, text, YEAR).digits == digits
+def test_rows_of_a_label_with_its_letters_say_its_article():
+    data = ("gtin,name,price,line 1\n9501101530003,Ůgaj |ĤŔ Ģy,1.95,j|Ģ\n012345000065,Öl,2.95,\n96385074,,3.95,\n"
+            "]E001234565,,,\n09501101530003,Kiste,,\n^10AB^17261231,Los,,\n")
+    for resolution, stock in ((203, "100x50"), (300, "L7163"), (600, "L7163")):
+        for article, drawing in made(data.encode(), stock, look=Look(resolution, bearers=True)).drawings:
+            image, shown = image_of(drawing, False), "".join(text.text for text in drawing.texts)
+            symbol = label_symbol(article.kind, article.text, YEAR)
+            wide, rows = image.packed(light=0)
+            top, high = drawing.boxes[1][1], drawing.boxes[1][3]
+            assert {found.answer.text for row in rows[top:top + high] for found in find_dots(row, drawing.width, YEAR)} == {article.answer.text}
+            module = min(box[2] for box in drawing.boxes)
+            assert [box[2] for box in drawing.boxes][:len(symbol.widths) // 2 + 1] == [module * it for it in symbol.widths[::2]]
+            assert shown.replace(" ", "") == "".join((article.name, article.price, *article.lines, symbol.text)).replace(" ", "")
 
 
-def test_no_upce():
-    with pytest.raises(Refusal) as info:
-        bars_of(Kind.UPCE, "9501101530003", YEAR)
-    assert info.value.name == "LabelKind"
-
-
-def test_quiet_zones_are_as_the_library_has_them():
-    for kind, text in ((Kind.EAN13, "9501101530003"), (Kind.UPCA, "012345000065"), (Kind.EAN8, "96385074"), (Kind.UPCE, "012345000065"),
-                       (Kind.ITF14, "9501101530003"), (Kind.GS1128, "^10A")):
-        wide = bars_of(kind, text.strip("^"), YEAR).modules
-        draw_label(kind, text.strip("^"), YEAR, module=1, width=wide, height=3)
-        with pytest.raises(Refusal):
-            draw_label(kind, text.strip("^"), YEAR, module=1, width=wide - 1, height=3)
-
-
-def test_the_longest_symbol_has_room():
-    text = "91" + "a" * 46
-    assert bars_of(Kind.GS1128, text, YEAR).modules < 640
-
-
-def planted(monkeypatch, edit):
-    """The faults of a label whose drawing is changed before it is looked at."""
-    real = labels.drawn
-
-    def drawn(item, plan):
-        drawing = real(item, plan)
-        edit(drawing)
-        return drawing
-    monkeypatch.setattr(labels, "drawn", drawn)
-    return faults("gtin,name,price\n9501101530003,x,1.95\n")
-
-
-def moved(drawing):
-    drawing.boxes[7] = drawing.boxes[7]._replace(left=drawing.boxes[7].left + 1)
-
-
-def widened(drawing):
-    drawing.boxes[3] = drawing.boxes[3]._replace(width=drawing.boxes[3].width + 1)
-
-
-def left_out(drawing):
-    del drawing.boxes[11]
-
-
-def doubled(drawing):
-    drawing.boxes.append(Box(drawing.boxes[0].left - 20, *drawing.boxes[0][1:]))
-
-
-def shortened(drawing):
-    drawing.boxes[5] = drawing.boxes[5]._replace(height=drawing.boxes[5].height // 3)
-
-
-def text_in_the_quiet_zone(drawing):
-    drawing.texts.append(Text("9", drawing.texts[0].font, 40, drawing.boxes[-1].left + 10, drawing.bars[1] - 2, 100))
-
-
-@pytest.mark.parametrize("edit", [moved, widened, left_out, doubled, shortened, text_in_the_quiet_zone])
-def test_a_wrong_drawing_is_refused(monkeypatch, edit):
-    (line, told), = planted(monkeypatch, edit)
-    assert line == 2 and "does not say what the list says" in told
-
-
-def test_another_symbol_is_refused(monkeypatch):
-    monkeypatch.setattr(labels, "bars_of", lambda kind, text, year: bars_of(kind, "4012345010008", year))
-    (_, told), = faults("gtin\n9501101530003\n")
-    assert "does not say what the list says" in told
+def test_letters_lie_in_their_rectangles():
+    data = "gtin,name,price,line 1\n9501101530003,ŮgajÖÅ|ĤŔ Ģy@W$,1.95 €,j|Ģ(Ŵ)\n^10ABCgj^17261231,Qj[]{},,(ÿ)\n".encode()
+    for resolution in (203, 300, 600):
+        for _, drawing in made(data, "2x4:99.1x67.7", look=Look(resolution)).drawings:
+            for text in drawing.texts:
+                inside, outside = (Dots(drawing.width, [0] * drawing.height) for _ in range(2))
+                left, top, width, height = text.box
+                inside.write(text._replace(box=(left - 1, top - 1, width + 2, height + 2)))
+                outside.write(text._replace(box=(0, 0, drawing.width, drawing.height)))
+                assert any(inside.rows) and inside.rows == outside.rows, text
 
 
 def test_files():

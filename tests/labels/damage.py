@@ -1,8 +1,7 @@
-"""Makes wrong drawings and damaged lists. Each must be refused: damage.py LISTS WORK.
+"""Makes damaged lists. Each must be refused: damage.py LISTS WORK.
 
 Prints a line for each part; the last one has the counts.
 """
-import collections
 import contextlib
 import io
 import os
@@ -12,7 +11,6 @@ import sys
 
 from noriladle import labels as shop
 from noriladle.__main__ import main as main_of_noriladle
-from noriladle.labels._drawing import Text
 
 LISTS, WORK = sys.argv[1:]
 YEAR = 2026
@@ -22,62 +20,6 @@ FAULTS = []
 def list_of(name):
     with open(os.path.join(LISTS, name), "rb") as file:
         return file.read().splitlines(keepends=True)
-
-
-# ---- drawings with one wrong box, or a text in a quiet zone
-
-def planted(drawing, item, chance):
-    """Makes a drawing wrong, and says how; or nothing, if the two boxes that are swapped are alike."""
-    what = chance.choice(["moved", "widened", "left out", "doubled in the quiet zone", "text in the quiet zone", "shortened", "swapped"])
-    at = chance.randrange(len(drawing.boxes))
-    box = drawing.boxes[at]
-    if what == "moved":
-        drawing.boxes[at] = box._replace(left=box.left + chance.choice([-1, 1]))
-    elif what == "widened":
-        drawing.boxes[at] = box._replace(width=box.width + chance.choice([-1, 1]))
-    elif what == "left out":
-        del drawing.boxes[at]
-    elif what == "doubled in the quiet zone":
-        drawing.boxes.append(box._replace(left=min(it.left for it in drawing.boxes) - chance.randrange(2, 10) * item.module))
-    elif what == "text in the quiet zone":
-        end = max(it.left + it.width for it in drawing.boxes)
-        left = end + chance.randrange(item.bars.widths[-1] - 1) * item.module
-        drawing.texts.append(Text("9", drawing.texts[0].font, 40, left, drawing.bars[1] - 2, 100))
-    elif what == "shortened":
-        drawing.boxes[at] = box._replace(height=box.height // 3)
-    else:
-        other = chance.randrange(len(drawing.boxes))
-        with_ = drawing.boxes[other]
-        if with_.width == box.width:
-            return ""
-        drawing.boxes[at], drawing.boxes[other] = box._replace(width=with_.width), with_._replace(width=box.width)
-    return what
-
-
-def try_drawings(count):
-    chance, real, told = random.Random(3), shop.drawn, []
-
-    def drawn(item, plan):
-        drawing = real(item, plan)
-        told.append(planted(drawing, item, chance))
-        return drawing
-    shop.drawn = drawn
-    refused, tried = 0, collections.Counter()
-    heading, *rows = list_of("prices.csv")
-    for _ in range(count):
-        try:
-            shop.make(shop.read_list(heading + chance.choice(rows), YEAR), shop.stock_of("L7160"), YEAR)
-            is_refused = False
-        except shop.Faults as faults:
-            is_refused = "does not say what the list says" in str(faults)
-        if told[-1]:
-            refused += is_refused
-            tried[told[-1]] += 1
-            if not is_refused:
-                FAULTS.append(f"a drawing was not refused: {told[-1]}")
-    shop.drawn = real
-    print(f"wrong drawings: {refused} of {sum(tried.values())} refused ({', '.join(f'{name} {number}' for name, number in tried.items())})")
-    return refused, sum(tried.values())
 
 
 # ---- lists with one fault, in a line that is known
@@ -169,10 +111,9 @@ def try_damage(count):
 
 
 def main():
-    parts = [try_drawings(1_000), try_lists(480), try_damage(2_000)]
+    parts = [try_lists(480), try_damage(2_000)]
     print("\n".join(FAULTS[:20]), file=sys.stderr, end="\n" if FAULTS else "")
-    print(f"{parts[0][0]} of {parts[0][1]} wrong drawings, {parts[1][0]} of {parts[1][1]} lists with a fault, "
-          f"{parts[2][0]} of {parts[2][1]} damaged lists as they must be; {len(FAULTS)} wrong")
+    print(f"{parts[0][0]} of {parts[0][1]} lists with a fault, {parts[1][0]} of {parts[1][1]} damaged lists as they must be; {len(FAULTS)} wrong")
     sys.exit(1 if FAULTS else 0)
 
 

@@ -5,8 +5,8 @@
     >>> labels.pdf()[:5]
     b'%PDF-'
 
-If a list has errors, nothing is made: :class:`Faults` has each with its line. The proved library reads each drawn label,
-which must say what the list says.
+If a list has errors, nothing is made: :class:`Faults` has each with its line. The proved library lays out each label, so it
+says what the list says, and its price is whole.
 
 All need a TrueType font, and PDF needs reportlab: ``pip install noriladle[labels]``, or Debian's python3-reportlab.
 """
@@ -16,18 +16,16 @@ import re
 from dataclasses import dataclass, replace
 from typing import TYPE_CHECKING, Callable, Dict, Iterator, List, Mapping, NamedTuple, Optional, Sequence, Tuple, TypeVar
 
-from .. import Refusal, find
 from .._columns import Table, table_of
 from .._lists import MOST_LINES, Fault, Faults
 from .._needs import FONT, REPORTLAB, sentence
-from .._shop import count_text, said, sentence_of_lines, told, translated
+from .._shop import count_text, said, sentence_of_lines, translated
 from ._articles import Article, articles_of
-from ._drawing import RESOLUTIONS, Cell, Drawing, Look, Warned, cell_of, rows_of
+from ._drawing import RESOLUTIONS, Drawing, Look, Warned, cell_of
 from ._fonts import Fonts, fonts_of
-from ._layout import Item, Plan, drawn, module_of, plan_of
+from ._layout import Layout
 from ._pages import Page, Placed, svg_of
 from ._stocks import KNOWN, Stock, stock_of
-from ._symbols import IDENTIFIERS, bars_of
 
 if TYPE_CHECKING:
     from ._dots import Image
@@ -210,20 +208,15 @@ def make(
         raise ValueError(translated("the first label is to be in one of the cells 1 to {0}, and not in {1}", stock.cells, start))
     if sum(article.copies for article in prices.articles) > MOST_LABELS:
         raise ValueError(translated("the list asks for more than {0} labels: split it", count_text(MOST_LABELS)))
-    used, cell = fonts or fonts_of(), cell_of(stock, look)
     articles = [_priced(article, currency) for article in prices.articles]
-    items, faults = _each(articles, articles, lambda article: _item(article, cell, used, look, year),
-                          lambda done, of: progress(done, 2 * of))
+    layout = Layout(cell_of(stock, look), fonts or fonts_of(), look, year, articles)
+    items, faults = _each(articles, articles, layout.item, lambda done, of: progress(done, 2 * of))
     left = sorted([*prices.faults, *faults])
     if left and not leave_out:
         raise Faults(left)
-    # Cases have other labels than articles.
-    plans = {is_retail: plan_of([item for item in items if item.is_retail is is_retail], cell, used, look)
-             for is_retail in (True, False)}
-    drawings, faults = _each(
-        [item.article for item in items], items,
-        lambda item: (item.article, _checked(item, plans[item.is_retail], year)),
-        lambda done, of: progress(of + done, 2 * of))
+    layout.plan(items)
+    drawings, faults = _each([item.article for item in items], items, lambda item: (item.article, layout.drawn(item)),
+                             lambda done, of: progress(of + done, 2 * of))
     left = sorted([*left, *faults])
     if faults and not leave_out or not sum(article.copies for article, _ in drawings):
         raise Faults(left or [Fault(1, said("noLabels"))])
@@ -247,36 +240,3 @@ def _each(
             faults.append(Fault(article.line, str(error)))
         progress(done, len(articles))
     return made, faults
-
-
-def _item(article: Article, cell: Cell, fonts: Fonts, look: Look, year: int) -> Item:
-    lacking = fonts.bold.lacks("".join((article.name, article.price, *article.lines)))
-    if lacking:
-        raise ValueError(told("notSet", ", ".join(map(repr, lacking[:5])), fonts.bold.name))
-    try:
-        bars = bars_of(article.kind, article.text, year)
-    except Refusal as refusal:
-        raise ValueError(f"{article.text}: {refusal}: {refusal.remedy}".replace("\x1d", "^")) from None
-    return Item(article, bars, module_of(bars, cell, look))
-
-
-def _checked(item: Item, plan: Plan, year: int) -> Drawing:
-    """The label of an article, whose rows have the symbol with its quiet zones, and say what the list says."""
-    drawing = drawn(item, plan)
-    for row in rows_of(drawing):
-        if not _has_symbol(row, item) or not _says(row, item, year):
-            raise ValueError(said("misdrawn"))
-    return drawing
-
-
-def _has_symbol(row: Sequence[int], item: Item) -> bool:
-    """Whether a row begins with the symbol, with as much light at its ends as that needs."""
-    wanted = tuple(width * item.module for width in item.bars.widths)
-    front = row[:len(wanted)]
-    return len(front) == len(wanted) and front[0] >= wanted[0] and front[1:-1] == wanted[1:-1] and front[-1] >= wanted[-1]
-
-
-def _says(row: Sequence[int], item: Item, year: int) -> bool:
-    """Whether the library reads exactly one symbol in a row, of this kind, which says what the list says."""
-    answers = [found.answer for found in find(row, year)]
-    return [(it.identifier, it.elements) for it in answers] == [(IDENTIFIERS[item.bars.kind], item.article.answer.elements)]

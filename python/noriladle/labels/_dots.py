@@ -7,9 +7,9 @@ from __future__ import annotations
 import re
 import struct
 import zlib
-from typing import List, Sequence
+from typing import List, Optional, Sequence
 
-from ._drawing import Drawing, Look, Text
+from ._drawing import Box, Drawing, Look, Text
 from ._letters import dots_of
 from ._pages import Page
 from ._stocks import Stock
@@ -29,12 +29,13 @@ class Image:
         """How many rows it has."""
         return len(self.rows)
 
-    def put(self, width: int, rows: Sequence[int], left: int, top: int) -> None:
-        """Darkens the dark dots of other rows, from a place on. What lies outside is cut off."""
-        shift, whole = self.width - left - width, (1 << self.width) - 1
+    def put(self, width: int, rows: Sequence[int], left: int, top: int, within: Optional[Box] = None) -> None:
+        """Darkens the dark dots of other rows, from a place on. What lies outside of a box, or of the image, is cut off."""
+        first, upper, wide, high = within or (0, 0, self.width, self.height)
+        shift, inside = self.width - left - width, ((1 << wide) - 1) << self.width - first - wide
         for place, row in enumerate(rows, top):
-            if row and 0 <= place < self.height:
-                self.rows[place] |= (row << shift if shift >= 0 else row >> -shift) & whole
+            if row and upper <= place < upper + high:
+                self.rows[place] |= (row << shift if shift >= 0 else row >> -shift) & inside
 
     def write(self, text: Text) -> None:
         """Puts a text, each letter at whole dots, so that it looks the same everywhere."""
@@ -42,7 +43,7 @@ class Image:
             at = middle - text.font.width(piece, text.size) / 2
             for letter in piece:
                 dots = dots_of(text.font.path, letter, text.size)
-                self.put(dots.width, dots.rows, round(at) + dots.left, round(text.base) - dots.top)
+                self.put(dots.width, dots.rows, round(at) + dots.left, round(text.base) - dots.top, text.box)
                 at += text.font.width(letter, text.size)
 
     def turned(self) -> Image:

@@ -2,9 +2,9 @@
 from __future__ import annotations
 
 import math
-import operator
+import struct
 from dataclasses import dataclass, field
-from typing import Dict, Iterator, List, NamedTuple, Optional, Set, Tuple
+from typing import Dict, Iterator, List, NamedTuple, Optional, Sequence, Tuple
 
 from .._shop import shared
 from ._fonts import Font
@@ -14,48 +14,33 @@ DOTS_IN_MM: Dict[int, float] = {int(name): dots / 25.4 for name, dots in shared(
 RESOLUTIONS = tuple(DOTS_IN_MM)
 """Printers' dots per inch; a printer of 203 has eight per millimetre."""
 
+Box = Tuple[int, int, int, int]
+"""A rectangle: its left and upper edge, its width and height."""
 
-class Box(NamedTuple):
-    """A dark rectangle."""
-
-    left: int
-    top: int
-    width: int
-    height: int
+BOX = struct.Struct("<4H24x")
+"""The rectangle of ``struct gs1_part``."""
 
 
 class Text(NamedTuple):
-    """A text on its base line, in a field that is wider; or each character in the middle of a cell."""
+    """Letters in a rectangle: on a base line one after another, or each in the middle of a cell."""
 
     text: str
     font: Font
     size: float
     left: float
     base: float
-    width: float
-    align: float = 0.0
-    """The part of the field's free width before the text: 0, 0.5 or 1."""
-    cell: float = 0.0
+    cell: float
+    box: Box
 
     @property
     def wide(self) -> float:
-        """How wide the text is."""
-        return self.width if self.cell else self.font.width(self.text, self.size)
-
-    @property
-    def start(self) -> float:
-        """Where the text begins."""
-        return self.left + (self.width - self.wide) * self.align
-
-    @property
-    def top(self) -> float:
-        """How far up it goes; digits have no accents."""
-        return self.base - (0.74 if self.cell else 0.95) * self.size
+        """How wide its letters are."""
+        return self.font.width(self.text, self.size)
 
     def pieces(self) -> Iterator[Tuple[str, float]]:
         """The pieces with a place of their own, each with its middle."""
         if not self.cell:
-            yield self.text, self.start + self.wide / 2
+            yield self.text, self.left + self.wide / 2
         else:
             yield from ((sign, self.left + (number + 0.5) * self.cell) for number, sign in enumerate(self.text))
 
@@ -89,20 +74,6 @@ class Cell:
     above: float
     dots: float
 
-    @property
-    def room(self) -> float:
-        """How wide texts may be."""
-        return self.width - 2 * self.aside
-
-    @property
-    def bottom(self) -> float:
-        """How far down anything may stand."""
-        return self.height - self.above
-
-    @property
-    def high_mm(self) -> float:
-        return self.height / self.dots
-
 
 class Warned(NamedTuple):
     """A warning about a label: its name in shop/en.json, and the values in it."""
@@ -119,11 +90,15 @@ class Drawing:
 
     width: int
     height: int
-    boxes: List[Box] = field(default_factory=list)
+    dark: bytes = b""
+    """The bars of its symbol from the left, and then its bearers, each as ``struct gs1_part``, which takes less memory than objects."""
     texts: List[Text] = field(default_factory=list)
-    bars: Tuple[int, int] = (0, 0)
-    """The first row through all bars, and one past the last."""
     warnings: List[Warned] = field(default_factory=list)
+
+    @property
+    def boxes(self) -> Sequence[Box]:
+        """Its bars and bearers."""
+        return [(left, top, width, height) for left, top, width, height in BOX.iter_unpack(self.dark)]
 
 
 def cell_of(stock: Stock, look: Look) -> Cell:
@@ -133,25 +108,3 @@ def cell_of(stock: Stock, look: Look) -> Cell:
     if look.turned:
         sizes, padding = sizes[::-1], padding[::-1]
     return Cell(sizes[0], sizes[1], padding[0], padding[1], look.dots)
-
-
-def rows_of(drawing: Drawing) -> Set[Tuple[int, ...]]:
-    """The widths of three rows through the bars of a drawing, with everything beside the bars. In most drawings they are
-    equal."""
-    first, last = drawing.bars
-    return {_row(drawing, y) for y in (first, (first + last) // 2, last - 1)}
-
-
-def _row(drawing: Drawing, y: int) -> Tuple[int, ...]:
-    """The widths of a row. A text counts as dark over its whole field."""
-    darks = [(left, left + width) for left, top, width, height in drawing.boxes if top <= y < top + height]
-    darks += [(math.floor(text.start), math.ceil(text.start + text.wide))
-              for text in drawing.texts if text.top <= y < text.base + 0.25 * text.size]
-    ends = [0]
-    for left, right in sorted(darks):
-        if left > ends[-1] or len(ends) == 1:
-            ends += [left, right]
-        else:
-            ends[-1] = max(ends[-1], right)
-    ends.append(drawing.width)
-    return tuple(map(operator.sub, ends[1:], ends))

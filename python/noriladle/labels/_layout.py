@@ -1,240 +1,221 @@
-"""The layout of a label: the name above, the bars below, and the price beside or above them."""
+"""Labels as the proved library lays them out (``gs1_measure``, ``gs1_plan`` and ``gs1_draw`` of gs1.h)."""
 from __future__ import annotations
 
+import ctypes
 import math
-from dataclasses import dataclass
-from typing import Callable, List, NamedTuple, Sequence, Tuple
+import struct
+from array import array
+from string import digits
+from typing import List, NamedTuple, Sequence, Set, Tuple
 
-from .. import Kind
-from .._shop import count_text, localized, said, told, translated
+from .. import Kind, LabelSymbol, Refusal, _library, _terms, label_symbol
+from .._shop import count_text, localized, said, shared, told, translated
 from ._articles import Article
-from ._drawing import DOTS_IN_MM, RESOLUTIONS, Box, Cell, Drawing, Look, Text, Warned
-from ._fonts import PITCH, Block, Fonts, fitted
-from ._symbols import Bars
+from ._drawing import BOX, DOTS_IN_MM, RESOLUTIONS, Cell, Drawing, Look, Text, Warned
+from ._fonts import Font, Fonts
 
-_GAP_MM = 0.9
-_LEAST_BARS_MM = 5.0
-_LEAST_PRICE_MM = 15.0
 _LOGISTIC_MM = 0.495
+_UP, _DOWN, _OVERSHOOT = 0.9, 0.22, 0.02
+"""How far most letters go up above their base line and down below it, and round digits below it, in sizes."""
+_MOST_PARTS, _ROW = 400, 8192
+_BAR, _LETTERS, _LINES, _CUT, _BOLD = 0, 2, 7, 1, 2
+_NO_SYMBOL, _TOO_WIDE, _NO_MODULE = 26, 27, 52
+_SAID = {53: "noBars", 54: "noPlace", 55: "noHeight", 56: "manyLines"}
+"""The errors of labels by their numbers in gs1.h, and what is said of them in shop/."""
+_PART, _INK, _DRAWN = struct.Struct("<7H2B4L"), 14, struct.Struct("<2L6H")
+"""``struct gs1_part``, where its ink stands, and ``struct gs1_drawing``."""
+_U16, _U32, _SIZE, _DOUBLE = ctypes.c_uint16, ctypes.c_uint32, ctypes.c_size_t, ctypes.c_double
+
+
+class _Lent(ctypes.Structure):
+    _fields_ = [("at", ctypes.c_char_p), ("count", _SIZE)]
+
+
+class _Article(ctypes.Structure):
+    _fields_ = [("text", _Lent), ("texts", _Lent * 8), ("kind", _U32), ("bearers", _U32)]
+
+
+class _Font(ctypes.Structure):
+    _fields_ = [("widths", _Lent), ("other", _U16), ("ascent", _U16), ("descent", _U16), ("digits", _U16)]
+
+
+class _Look(ctypes.Structure):
+    _fields_ = [*((name, _DOUBLE) for name in ("aside", "above", "dots", "module_mm", "bars_mm")),
+                ("width", _U16), ("height", _U16), ("price_first", _U32), ("fonts", _Font * 2)]
+
+
+class _Measure(ctypes.Structure):
+    _fields_ = [("wide", _U32), ("price", _U32), ("retail", ctypes.c_uint8)]
+
+
+_Plan = _DOUBLE * 6
 
 
 class Item(NamedTuple):
-    """An article with its bars, and the dots of one module."""
+    """An article, as it is lent to the library, and what its label counts for the others."""
 
     article: Article
-    bars: Bars
-    module: int
-
-    @property
-    def wide(self) -> int:
-        """How wide the symbol is with its quiet zones."""
-        return self.bars.modules * self.module
-
-    @property
-    def is_retail(self) -> bool:
-        """Whether its digits stand in groups."""
-        return bool(self.bars.form.groups)
+    lent: _Article
+    measure: _Measure
 
 
-@dataclass(frozen=True)
-class Plan:
-    """What the labels of a list have in common, so that their sheets look even."""
+class Layout:
+    """Lays out the labels of a list."""
 
-    cell: Cell
-    fonts: Fonts
-    look: Look
-    column: int
-    """The largest width of a symbol with its price beside it."""
-    beside: float
-    """The largest size of prices beside the symbol, and of those above it."""
-    above: float
+    def __init__(self, cell: Cell, fonts: Fonts, look: Look, year: int, articles: Sequence[Article]) -> None:
+        self._cell, self._fonts, self._year, self._bearers, self._terms = cell, fonts, year, look.bearers, _terms(year, "all")
+        letters = set("… ").union(*(text for article in articles for text in (*_texts(article), article.answer.text)))
+        self._lacking = set(fonts.bold.lacks("".join(letters)))
+        self._look = _Look(cell.aside, cell.above, cell.dots, look.module_mm or 0, look.bars_mm or 0, cell.width, cell.height, False,
+                           (_Font * 2)(*(_lent_font(font, letters) for font in fonts)))
+        self._plan = _Plan()
+        self._row, self._parts, self._drawn = map(ctypes.create_string_buffer, (_ROW, _MOST_PARTS * _PART.size, _DRAWN.size))
 
-    @property
-    def dots(self) -> float:
-        return self.cell.dots
+    def item(self, article: Article) -> Item:
+        """An article with its measure.
+
+        :raises ValueError: the label has no room for its symbol, there is no such symbol, or the font lacks a letter.
+        """
+        texts = _texts(article)
+        lacking = sorted(self._lacking.intersection("".join(texts)))
+        if lacking:
+            raise ValueError(told("notSet", ", ".join(map(repr, lacking[:5])), self._fonts.bold.name))
+        number = article.text.encode("ascii")
+        lent = _Article(_Lent(number, len(number)), kind=article.kind.value, bearers=self._bearers)
+        for place, text in zip((0, 1, _LINES), texts):
+            lent.texts[place] = _Lent(text.encode("utf-32-le"), len(text))
+        measure = _Measure()
+        self._check(_library.gs1_measure(_at(self._look), _at(lent), self._terms, _at(measure)), article)
+        return Item(article, lent, measure)
+
+    def plan(self, items: Sequence[Item]) -> None:
+        """Notes what the labels of these articles have in common, so that their sheets look even."""
+        measures = (_Measure * len(items))(*(item.measure for item in items))
+        if _library.gs1_plan(_at(self._look), measures, len(items), self._plan):
+            raise ValueError(said("misdrawn"))
+
+    def drawn(self, item: Item) -> Drawing:
+        """The label of an article.
+
+        :raises ValueError: it has no room.
+        """
+        self._check(_library.gs1_draw(_at(self._look), self._plan, _at(item.lent), self._terms, self._row, _ROW, self._parts, _MOST_PARTS,
+                                      self._drawn), item.article)
+        count, nominal, width, height, top, end, _, module = _DRAWN.unpack(self._drawn)
+        drawing = Drawing(width, height)
+        self._put(drawing, item.article, self._parts.raw[:count * _PART.size])
+        dots, high = self._cell.dots, (end - top) / self._cell.dots
+        wanted = nominal / 64 / dots
+        if high < wanted - 0.1:
+            drawing.warnings.append(Warned("low", (localized(f"{high:.1f}"), localized(f"{wanted:.1f}")), high / wanted))
+        if not item.measure.retail and module / dots < _LOGISTIC_MM - 1e-6:
+            drawing.warnings.append(Warned("narrow", (localized(f"{module / dots:.3f}"), localized(f"{_LOGISTIC_MM}")), module))
+        return drawing
+
+    def _put(self, drawing: Drawing, article: Article, parts: bytes) -> None:
+        """Puts parts into a drawing, with a warning of each text that is cut."""
+        behind = _PART.size * parts[_INK::_PART.size].count(_BAR)
+        drawing.dark = parts[:behind]
+        texts = dict(zip((0, 1, _LINES, 8), (*_texts(article), _symbol(article, self._year).text)))
+        for left, top, wide, high, field, first, count, ink, flags, size, start, base, step in _PART.iter_unpack(parts[behind:]):
+            if ink != _LETTERS:
+                drawing.dark += BOX.pack(left, top, wide, high)
+                continue
+            text, font = texts[field][first:first + count], self._fonts.bold if flags & _BOLD else self._fonts.regular
+            if flags & _CUT:
+                begin = texts[field].rfind("\n", 0, first) + 1 if field == _LINES else 0
+                text += "…"
+                drawing.warnings.append(Warned("cut", (f"{' '.join(texts[field][begin:first + count].split())}…",)))
+            # Letters such as j begin left of their origin.
+            start += max(0.0, -size * font.ink(text[0]).left)
+            drawing.texts.append(Text(text, font, size / 64, start / 64, base / 64, step / 64, (left, top, wide, high)))
+
+    def _check(self, fault: int, article: Article) -> None:
+        """Raises the error of this number, with what to do."""
+        if not fault:
+            return
+        if fault == _TOO_WIDE:
+            raise ValueError(_too_wide(article.kind, _symbol(article, self._year), self._cell))
+        if fault == _NO_MODULE:
+            least, _, most = _modules(article.kind)
+            raise ValueError(said("noModule", localized(f"{least}"), localized(f"{most}")))
+        if fault <= _NO_SYMBOL:
+            _symbol(article, self._year)
+        raise ValueError(said(_SAID.get(fault, "misdrawn")))
 
 
-def module_of(bars: Bars, cell: Cell, look: Look) -> int:
-    """The dots of a module: of the numbers that are allowed and have room, that nearest to the wanted width.
+def _at(lent: ctypes.Structure) -> object:
+    return ctypes.byref(lent)
 
-    :raises ValueError: none has room.
+
+def _texts(article: Article) -> Tuple[str, str, str]:
+    """The texts of a label: its name, its price and its further lines."""
+    return article.name, article.price, "\n".join(article.lines)
+
+
+def _lent_font(font: Font, letters: Set[str]) -> _Font:
+    """A font with the widths and heights of these letters. Lines are farther apart if some are higher than most."""
+    inks = {letter: font.ink(letter) for letter in letters | set(digits)}
+    table = array("H", bytes(2 * (1 + max(map(ord, inks)))))
+    for letter, ink in inks.items():
+        table[ord(letter)] = _unit(max(0.0, -ink.left) + max(ink.right, font.width(letter), 1e-4))
+    up, down = max(_UP, *(ink.top for ink in inks.values())), max(_DOWN, *(-ink.bottom for ink in inks.values()))
+    heights = font.widths.other, up, down, max(inks[digit].top for digit in digits) + _OVERSHOOT
+    return _Font(_Lent(table.tobytes(), len(table)), *map(_unit, heights))
+
+
+def _unit(length: float) -> int:
+    """A length of a font as gs1.h has it, rounded up."""
+    return min(65535, math.ceil(16384 * length))
+
+
+def _symbol(article: Article, year: int) -> LabelSymbol:
+    """The symbol of an article.
+
+    :raises ValueError: there is none; the message says what to do.
     """
-    wish, allowed = look.module_mm or bars.form.modules[1], _allowed(bars, cell.dots)
-    fitting = [dots for dots in allowed if _needed(bars, dots, cell.aside) <= cell.width]
-    if not fitting:
-        raise ValueError(_too_wide(bars, cell))
-    return min(fitting, key=lambda dots: abs(dots / cell.dots - wish))
+    try:
+        # These are elements, also if their digits may be a GTIN.
+        return label_symbol(article.kind, f"^{article.text}" if article.kind is Kind.GS1128 else article.text, year)
+    except Refusal as refusal:
+        raise ValueError(f"{article.text}: {refusal}: {refusal.remedy}".replace("\x1d", "^")) from None
 
 
-def _allowed(bars: Bars, dots: float) -> range:
-    """The dots that a module may have on a printer with this many per millimetre."""
-    least, _, most = bars.form.modules
-    return range(math.ceil(least * dots - 1e-6), math.floor(most * dots + 1e-6) + 1)
+# ---- what to do if no module has room
 
 
-def _needed(bars: Bars, module: float, aside: float) -> float:
+def _modules(kind: Kind) -> Tuple[float, float, float]:
+    """The least, the wanted and the largest width of a module, in mm."""
+    least, wanted, most = shared("modules")["cases" if _is_case(kind) else "retail"]
+    return least, wanted, most
+
+
+def _is_case(kind: Kind) -> bool:
+    return kind in (Kind.GS1128, Kind.ITF14)
+
+
+def _least(kind: Kind, dots: float) -> int:
+    """The dots of the narrowest module."""
+    return math.ceil(_modules(kind)[0] * dots - 1e-6)
+
+
+def _needed(kind: Kind, symbol: LabelSymbol, module: float, aside: float) -> float:
     """The width that a label needs. Quiet zones may lie in the white at its sides, unless digits stand in them."""
-    quiet = 0 if bars.form.groups else min(bars.widths[0], bars.widths[-1])
-    return module * bars.modules + 2 * max(0.0, aside - module * quiet)
+    quiets = symbol.quiet_left, symbol.quiet_right
+    return module * (sum(quiets) + sum(symbol.widths)) + 2 * max(0.0, aside - module * _is_case(kind) * min(quiets))
 
 
-def _too_wide(bars: Bars, cell: Cell) -> str:
+def _too_wide(kind: Kind, symbol: LabelSymbol, cell: Cell) -> str:
     """The error that no module has room, with what to do."""
-    module, finest = _allowed(bars, cell.dots)[0] / cell.dots, max(RESOLUTIONS)
-    least, aside = _allowed(bars, DOTS_IN_MM[finest])[0] / DOTS_IN_MM[finest], cell.aside / cell.dots
-    ways = [said("wider", count_text(math.ceil(_needed(bars, module, aside))))]
-    if _needed(bars, least, aside) <= cell.width / cell.dots:
+    finest = max(RESOLUTIONS)
+    module, least = (_least(kind, dots) / dots for dots in (cell.dots, DOTS_IN_MM[finest]))
+    wide, high, aside, above = (length / cell.dots for length in (cell.width, cell.height, cell.aside, cell.above))
+    ways = [said("wider", count_text(math.ceil(_needed(kind, symbol, module, aside))))]
+    if _needed(kind, symbol, least, aside) <= wide:
         ways.append(f"{said('finer', finest)} (--dpi {finest})")
-    if _needed(bars, module, cell.above / cell.dots) <= cell.high_mm:
+    if _needed(kind, symbol, module, above) <= high:
         ways.append(told("turn"))
-    if bars.kind is Kind.GS1128:
+    if kind is Kind.GS1128:
         ways.append(said("fewer"))
-    lengths = f"{cell.width / cell.dots:.1f}", f"{module:.3f}", f"{module * bars.modules:.1f}"
+    lengths = f"{wide:.1f}", f"{module:.3f}", f"{_needed(kind, symbol, module, 0.0):.1f}"
     return said("tooWide", *map(localized, lengths), f";{translated(' or ')}".join(ways))
-
-
-def plan_of(items: Sequence[Item], cell: Cell, fonts: Fonts, look: Look) -> Plan:
-    """What labels of these articles have in common."""
-    fitting = [item.wide for item in items if item.wide <= cell.room - _LEAST_PRICE_MM * cell.dots]
-    column = max(fitting, default=0)
-    beside, above = 18 * cell.dots, _between(3.2, 0.2 * cell.high_mm, 16) * cell.dots
-    # The widths of the prices that are not empty, in the unit of their size.
-    inside = [wide for item in items if item.wide <= column and (wide := fonts.bold.width(item.article.price))]
-    outside = [wide for item in items if item.wide > column and (wide := fonts.bold.width(item.article.price))]
-    beside = _common(beside, [(cell.room - column - cell.dots) / wide for wide in inside])
-    above = _common(above, [0.48 * cell.room / wide for wide in outside])
-    return Plan(cell, fonts, look, column, beside, above)
-
-
-def _common(largest: float, sizes: Sequence[float]) -> float:
-    """The size in which all prices have room, except those that are much longer than most; at most the largest."""
-    middle = sorted(sizes)[len(sizes) // 2] if sizes else largest
-    return min([largest, *(size for size in sizes if size >= 0.6 * middle)])
-
-
-def drawn(item: Item, plan: Plan) -> Drawing:
-    """The label of an article.
-
-    :raises ValueError: it has no room.
-    """
-    cell = plan.cell
-    drawing = Drawing(cell.width, cell.height)
-    if item.wide <= plan.column and (item.article.price or item.article.lines):
-        top = _put(drawing, _name(item.article, cell.room, plan), cell.aside, cell.above, cell.room)
-        _price_column(drawing, item.article, plan, top)
-        left = cell.aside + (plan.column - item.wide) / 2
-    else:
-        top = _head(drawing, item.article, plan)
-        left = (cell.width - item.wide) / 2
-    _symbol(drawing, item, plan, round(left), top)
-    return drawing
-
-
-def _between(least: float, length: float, most: float) -> float:
-    return max(least, min(length, most))
-
-
-def _put(drawing: Drawing, block: Block, left: float, top: float, width: float, align: float = 0.0) -> float:
-    """Puts a block below a height, and returns where it ends."""
-    if block.is_cut:
-        drawing.warnings.append(Warned("cut", (" ".join(block.lines),)))
-    for number, line in enumerate(block.lines):
-        base = top + (number * PITCH + 0.8) * block.size
-        drawing.texts.append(Text(line, block.font, block.size, left, base, width, align))
-    return top + block.height
-
-
-def _name(article: Article, width: float, plan: Plan) -> Block:
-    largest, most = _between(2.5, 0.125 * plan.cell.high_mm, 9), 2 if plan.cell.high_mm < 60 else 3
-    return fitted(plan.fonts.bold, article.name, width, largest * plan.dots, max(1.9, 0.6 * largest) * plan.dots, most)
-
-
-def _head(drawing: Drawing, article: Article, plan: Plan) -> float:
-    """Puts the name, the price right of it and the lines below them, and returns where they end."""
-    cell = plan.cell
-    price = fitted(plan.fonts.bold, article.price, 0.48 * cell.room, plan.above, 2.2 * plan.dots, 1)
-    left = cell.room - price.width - (plan.dots if article.price else 0)
-    top = max(_put(drawing, price, cell.aside + cell.room - price.width, cell.above - 0.08 * price.size, price.width, 1),
-              _put(drawing, _name(article, left, plan), cell.aside, cell.above, left))
-    size = _between(1.7, 0.07 * cell.high_mm, 5) * plan.dots
-    # Low labels have one line for all.
-    for line in article.lines if cell.high_mm >= 45 else filter(None, ["   ".join(article.lines)]):
-        block = fitted(plan.fonts.regular, line, cell.room, size, 0.7 * size, 1)
-        top = _put(drawing, block, cell.aside, top, cell.room)
-    return top
-
-
-def _price_column(drawing: Drawing, article: Article, plan: Plan, top: float) -> None:
-    """Puts the price right of the bars, and the lines below it, down to the label's end."""
-    cell, left = plan.cell, plan.cell.aside + plan.column + plan.dots
-    width = cell.width - cell.aside - left
-    size = _between(1.9, 0.085 * cell.high_mm, 5) * plan.dots
-    lines = [fitted(plan.fonts.regular, line, width, size, 0.6 * size, 2) for line in article.lines]
-    room = cell.bottom - top - sum(block.height for block in lines)
-    price = fitted(plan.fonts.bold, article.price, width, min(plan.beside, room / PITCH), 2.6 * plan.dots, 1)
-    if price.height > room:
-        raise ValueError(said("noPlace"))
-    at = top + room - price.height
-    for block in (price, *lines):
-        at = _put(drawing, block, left, at, width, 1)
-
-
-def _symbol(drawing: Drawing, item: Item, plan: Plan, left: int, top: float) -> None:
-    """Puts the bars and their digits at the label's lower end, below a height."""
-    bars, module, cell, look = item.bars, item.module, plan.cell, plan.look
-    under, put_digits = (_retail_digits if item.is_retail else _other_digits)(item, plan)
-    bearer = 2 * module if look.bearers and bars.kind is Kind.ITF14 else 0
-    nominal = bars.form.high * (module / bars.form.modules[1] if item.is_retail else cell.dots)
-    wanted = look.bars_mm * cell.dots if look.bars_mm else nominal
-    high = math.floor(min(wanted, cell.bottom - under - top - 2 * bearer - _GAP_MM * cell.dots))
-    if high < _LEAST_BARS_MM * cell.dots:
-        raise ValueError(said("noHeight", localized(f"{max(0, high) / cell.dots:.1f}")))
-    first = math.floor(cell.bottom - under - bearer - high)
-    drawing.bars = first, first + high
-    start = left + bars.widths[0] * module
-    drawing.boxes += [Box(start + at * module, first, width * module, high + (5 * module if is_long else 0))
-                      for at, width, is_long in bars.dark()]
-    if bearer:
-        drawing.boxes += [Box(left, y, item.wide, bearer) for y in (first - bearer, first + high)]
-    drawing.texts += put_digits(left, first + high + bearer + under)
-    _warn(drawing, bars, module / cell.dots, high / cell.dots, nominal / cell.dots)
-
-
-def _warn(drawing: Drawing, bars: Bars, size: float, high: float, nominal: float) -> None:
-    """The warnings if the standard asks for other modules or bars than these, in mm."""
-    if high < nominal - 0.1:
-        drawing.warnings.append(Warned("low", (localized(f"{high:.1f}"), localized(f"{nominal:.1f}")), high / nominal))
-    if not bars.form.groups and size < _LOGISTIC_MM - 1e-6:
-        drawing.warnings.append(Warned("narrow", (localized(f"{size:.3f}"), localized(f"{_LOGISTIC_MM}")), size))
-
-
-_Digits = Tuple[float, Callable[[int, float], List[Text]]]
-"""The height of digits, and a function that puts them: from the symbol's left edge on, and down to a height."""
-
-
-def _retail_digits(item: Item, plan: Plan) -> _Digits:
-    """Digits in groups, 25 / 3 modules high and a module below the bars (GS1 General Specifications, 5.2.5)."""
-    bars, module, font = item.bars, item.module, plan.fonts.regular
-    size = min(11.8 * module, 6.7 * module / font.width("0"))
-
-    def put(left: int, bottom: float) -> List[Text]:
-        return [Text(bars.digits[first:first + digits], font, size * min(1, cell / 7), left + (bars.widths[0] + at) * module,
-                     bottom, digits * cell * module, 0.0, cell * module) for first, digits, at, cell in bars.form.groups]
-
-    return (1 + 25 / 3) * module, put
-
-
-def _other_digits(item: Item, plan: Plan) -> _Digits:
-    """Digits or elements in the middle, in as few lines as possible. An element is split only if it is too long."""
-    elements = [f"({element.ai}){element.value}" for element in item.article.answer.elements]
-    text = " ".join(elements) if item.bars.kind is Kind.GS1128 else item.bars.digits
-    block = fitted(plan.fonts.regular, text, item.wide, 3.4 * plan.dots, 2.2 * plan.dots, 3)
-    gap = 0.8 * plan.dots
-
-    def put(left: int, bottom: float) -> List[Text]:
-        top = bottom - block.height
-        bases = [top + (number * PITCH + 0.9) * block.size for number in range(len(block.lines))]
-        return [Text(line.replace(" ", ""), block.font, block.size, left, base, item.wide, 0.5)
-                for line, base in zip(block.lines, bases)]
-
-    return gap + block.height, put

@@ -22,6 +22,15 @@ class Point(NamedTuple):
     is_on: bool
 
 
+class Ink(NamedTuple):
+    """The rectangle of a letter in ems, from its origin to the right and upwards."""
+
+    left: float
+    bottom: float
+    right: float
+    top: float
+
+
 class Dots(NamedTuple):
     """The dots of a letter, and where they begin: right of its origin, and above its base line."""
 
@@ -48,9 +57,21 @@ def dots_of(path: Path, letter: str, size: float) -> Dots:
     """
     try:
         font = _font(path)
-        glyph = font.glyphs.get(ord(letter)) or font.glyphs.get(32, 0) * (letter == "\xa0")
-        outlines = [[Point(x * size, y * size, is_on) for x, y, is_on in outline] for outline in font.outlines(glyph)]
+        outlines = [[Point(x * size, y * size, is_on) for x, y, is_on in outline] for outline in font.outlines(font.glyph(letter))]
         return _filled([edge for outline in outlines for edge in _edges(outline, size)], [place for outline in outlines for place in _speck(outline)])
+    except (struct.error, IndexError, ZeroDivisionError, KeyError) as error:
+        raise NoFont(f"{path.name} has a damaged letter {letter!r}") from error
+
+
+@lru_cache(maxsize=4096)
+def ink_of(path: Path, letter: str) -> Ink:
+    """Where a letter has ink.
+
+    :raises NoFont: its outline is damaged.
+    """
+    try:
+        font = _font(path)
+        return font.ink(font.glyph(letter))
     except (struct.error, IndexError, ZeroDivisionError, KeyError) as error:
         raise NoFont(f"{path.name} has a damaged letter {letter!r}") from error
 
@@ -66,6 +87,10 @@ class _Font:
 
     def _read(self, form: str, at: int) -> Tuple[int, ...]:
         return struct.unpack_from(f">{form}", self._data, at)
+
+    def glyph(self, letter: str) -> int:
+        """The glyph of a letter; 0, the sign for missing characters, if the font lacks it."""
+        return self.glyphs.get(ord(letter)) or self.glyphs.get(32, 0) * (letter == "\xa0")
 
     def outlines(self, glyph: int) -> List[List[Point]]:
         """The closed outlines of a glyph, in ems.
@@ -83,14 +108,24 @@ class _Font:
         if self._left < 0:
             raise IndexError("points")
 
-    def _outlines(self, glyph: int, depth: int) -> List[List[Point]]:
-        loca, glyf = self._tables["loca"], self._tables["glyf"]
+    def ink(self, glyph: int) -> Ink:
+        """The rectangle of a glyph."""
+        at = self._place(glyph)
+        return Ink(*(edge / self._em for edge in (self._read("4h", at + 2) if at else (0, 0, 0, 0))))
+
+    def _place(self, glyph: int) -> int:
+        """Where a glyph stands in the file; 0 if it has no outline."""
+        loca = self._tables["loca"]
         first, end = self._read("II", loca + 4 * glyph) if self._is_long else (2 * it for it in self._read("HH", loca + 2 * glyph))
-        if first == end:
+        return self._tables["glyf"] + first if first != end else 0
+
+    def _outlines(self, glyph: int, depth: int) -> List[List[Point]]:
+        at = self._place(glyph)
+        if not at:
             return []
         self._take(1 if depth <= _DEEPEST else _MOST + 1)
-        count, = self._read("h", glyf + first)
-        return self._simple(glyf + first + 10, count) if count >= 0 else self._composite(glyf + first + 10, depth)
+        count, = self._read("h", at)
+        return self._simple(at + 10, count) if count >= 0 else self._composite(at + 10, depth)
 
     def _simple(self, at: int, count: int) -> List[List[Point]]:
         ends = self._read(f"{count}H", at) if count else (-1,)

@@ -49,13 +49,14 @@ def _draw_pdf(canvas: Canvas, drawing: Drawing) -> None:
     """Draws a label below the origin, in dots. Its boxes are one path, whose origin moves by what they lack."""
     boxes = [f"{left} {-top - height} {width - 1}.9 {height - 1}.9 re" for left, top, width, height in drawing.boxes]
     canvas.addLiteral("\n".join([f"q 1 0 0 1 {_INSET} {_INSET} cm", *boxes, "f Q"]))
+    lines = canvas.beginText()
     for text in drawing.texts:
-        canvas.setFont(_set_in(text.font), text.size)
-        if text.cell:
-            space = text.cell - text.font.width("0", text.size)
-            canvas.drawString(text.left + space / 2, -text.base, text.text, charSpace=space)
-        else:
-            canvas.drawString(text.start, -text.base, text.text)
+        space = text.cell and text.cell - text.font.width("0", text.size)
+        lines.setFont(_set_in(text.font), text.size)
+        lines.setCharSpace(space)
+        lines.setTextOrigin(text.left + space / 2, -text.base)
+        lines.textLine(text.text)
+    canvas.drawText(lines)
 
 
 @lru_cache(maxsize=None)
