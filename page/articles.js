@@ -135,7 +135,7 @@ const copiesFault = (copies) => copies && !(/^[0-9]{1,4}$/.test(copies) && Numbe
 // The kind of a text, what is printed and what it says; or why there is none.
 function symbolTold(text, named) {
   const short = named.replace(/[^\S\ufeff]|-/g, "").toLowerCase();
-  if (short && !FORMS[short]) return { fault: { key: "noKind", values: [shortText(named), Gs1.kinds.join(", ")] } };
+  if (short && !Gs1.kinds.includes(short)) return { fault: { key: "noKind", values: [shortText(named), Gs1.kinds.join(", ")] } };
   // Eight digits may be both. A UPC-E begins with 0.
   const digits = digitsOf(text), mark = /^\p{Nd}{8}$/u.test(digits) && { upce: /^[1-9]/.test(digits) ? "" : "]E0", ean8: "]E4" }[short];
   const asked = mark ? mark + digits : text, answer = readText(asked);

@@ -34,6 +34,9 @@ function paintText(pen, text) {
   for (const { text: said, middle, wide } of piecesOf(text)) {
     const scale = wide / (pen.measureText(said).width || 1);
     pen.save();
+    pen.beginPath();
+    pen.rect(...text.box);
+    pen.clip();
     pen.translate(middle - wide / 2, text.base);
     pen.scale(scale, 1);
     pen.fillText(said, 0, 0);
@@ -52,8 +55,8 @@ function canvasOf(width, height) {
 // The box of a text in whole dots, and its grey values there.
 function rasterOf(text) {
   const pieces = piecesOf(text), wide = Math.max(...pieces.map((piece) => piece.wide));
-  const left = Math.floor(pieces[0].middle - wide / 2) - 1, top = Math.floor(text.base - text.size), bottom = Math.ceil(text.base + 0.3 * text.size);
-  const width = Math.ceil(pieces.at(-1).middle + wide / 2) + 1 - left, { canvas, pen } = canvasOf(width, bottom - top);
+  const left = Math.floor(pieces[0].middle - wide / 2) - 1, [, top, , high] = text.box;
+  const width = Math.ceil(pieces.at(-1).middle + wide / 2) + 1 - left, { canvas, pen } = canvasOf(width, high);
   pen.translate(-left, -top);
   paintText(pen, text);
   return { left, top, ...greyOf(pen.getImageData(0, 0, canvas.width, canvas.height)) };

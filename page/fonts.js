@@ -1,5 +1,5 @@
 // The font of labels, Helvetica or one with its widths (Arial, Liberation Sans), which every PDF reader has: the widths of texts, in
-// thousandths of their size, and how they fill lines. As python/noriladle/labels/_fonts.py.
+// thousandths of their size, and where signs have ink.
 "use strict";
 
 const FAMILY = "Arial, Helvetica, 'Liberation Sans', sans-serif";
@@ -84,60 +84,28 @@ function widthOfText(text, isBold) {
   return measure.measureText(text).width / 100;
 }
 
-// The distance of lines, in sizes; and the most characters of a text: a longer one has no room on any label.
-const PITCH = 1.12, MOST_LETTERS = 300;
+// Where signs have ink, and their widths, in sizes, so far.
+const inks = new Map();
 
-// The words of a text, each with the blanks after it, its widths with and without them, and whether it begins a paragraph. A hyphen ends a
-// word too; a number and its unit stay together.
-function wordsOf(text, isBold) {
-  const kept = text.slice(0, MOST_LETTERS).replace(/(\d) (?=[^\s\d]{1,2}(?:\s|$))/g, "$1\u00a0");
-  return kept.split("\n").flatMap((line) => (line.match(/[^ \t-]*-+(?=[\p{L}\p{N}_])|[^ \t]+[ \t]*|[ \t]+/gu) ?? []).map((word, place) =>
-    ({ text: word, wide: widthOfText(word, isBold), bare: widthOfText(word.trimEnd(), isBold), isFirst: !place })));
+// How far a sign goes up and down from its base line, and beside its width, which is that of its place in a line.
+function inkOf(sign, isBold) {
+  const key = `${Number(isBold)}${sign}`;
+  if (!inks.has(key)) {
+    measure.font = `${isBold ? "bold " : ""}100px ${FAMILY}`;
+    const { actualBoundingBoxLeft: left, actualBoundingBoxRight: right, actualBoundingBoxAscent: up, actualBoundingBoxDescent: down } = measure.measureText(sign);
+    inks.set(key, { left: Math.max(0, left / 100), right: right / 100, up: up / 100, down: down / 100, wide: widthOfText(sign, isBold) });
+  }
+  return inks.get(key);
 }
 
-// The lines of words, each with as many as have room, and the width of the widest.
-function filled(words, width) {
-  const lines = [];
-  let at = 0, widest = 0;
-  for (const word of words) {
-    if (!lines.length || word.isFirst || at && at + word.bare > width) [at] = [0, lines.push("")];
-    lines.push(lines.pop() + word.text);
-    widest = Math.max(widest, at + word.bare);
-    at += word.wide;
-  }
-  return { lines: lines.map((line) => line.trimEnd()).filter(Boolean), widest };
-}
+// Signs that each list has, and how far most go up and down.
+const ALWAYS = " …()0123456789", UP = 0.9, DOWN = 0.22;
 
-// A line that is one word too long, cut into pieces that have room.
-function broken(line, isBold, width) {
-  const pieces = [""];
-  let at = 0;
-  for (const letter of line) {
-    const wide = widthOfText(letter, isBold);
-    if (pieces.at(-1) && at + wide > width) [at] = [0, pieces.push("")];
-    pieces.push(pieces.pop() + letter);
-    at += wide;
-  }
-  return pieces;
-}
-
-// A text in few lines of this width. It takes one more line, up to the most, only if the size would otherwise be below three quarters of
-// the largest. What has no room in the smallest size is cut.
-function fittedText(text, isBold, width, largest, smallest, most) {
-  const made = (lines, size, isCut) => ({ lines, size, isBold, isCut, height: lines.length * size * PITCH,
-    width: Math.max(0, ...lines.map((line) => widthOfText(line, isBold) * size)) });
-  const words = wordsOf(text, isBold), isLong = text.length > MOST_LETTERS;
-  for (let count = 1; count <= most && !isLong; count++) {
-    const least = count === most ? smallest : Math.max(smallest, 0.75 * largest);
-    for (let size = largest; size >= least; size *= 0.97) {
-      const { lines, widest } = filled(words, width / size);
-      // A size that just fits may be rounded up.
-      if (lines.length <= count && widest <= width / size + 1e-6) return made(lines, size, false);
-    }
-  }
-  const lines = filled(words, width / smallest).lines.flatMap((line) => broken(line, isBold, width / smallest));
-  if (lines.length <= most && !isLong) return made(lines, smallest, false);
-  let last = lines[most - 1] ?? "";
-  while (last && widthOfText(`${last}…`, isBold) * smallest > width) last = last.slice(0, -1);
-  return made([...lines.slice(0, most - 1), `${last.trimEnd()}…`], smallest, true);
+// A font of these signs as gs1.h has it. Lines are farther apart if some are higher than most.
+function fontOf(signs, isBold) {
+  const found = signs.map((sign) => ({ code: sign.codePointAt(0), ...inkOf(sign, isBold) })), unit = (length) => Math.min(65535, Math.ceil(16384 * length));
+  const most = (ofInk, least) => found.reduce((so, ink) => Math.max(so, ofInk(ink)), least), widths = new Uint16Array(1 + most(({ code }) => code, 0));
+  for (const { code, left, right, wide } of found) widths[code] = unit(left + Math.max(right, wide, 1e-4));
+  return { widths, other: unit(widthOfText("0", isBold)), up: unit(most(({ up }) => up, UP)), down: unit(most(({ down }) => down, DOWN)),
+    digits: unit(Math.max(...Array.from("0123456789", (digit) => inkOf(digit, isBold).up)) + 0.02) };
 }

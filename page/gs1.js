@@ -37,14 +37,18 @@ class Gs1 {
   static async load(base64, bits) {
     const text = atob(base64), bytes = new Uint8Array(text.length);
     for (let i = 0; i < bytes.length; i++) bytes[i] = text.charCodeAt(i);
-    const { instance } = await WebAssembly.instantiate(bytes, {});
-    return new Gs1(instance.exports, bits);
+    const { module, instance } = await WebAssembly.instantiate(bytes, {});
+    return new Gs1(instance.exports, bits, module);
   }
 
+  // The same module with a memory of its own.
+  another() { return new Gs1(new WebAssembly.Instance(this.module, {}).exports, this.bits, this.module); }
+
   // 256 KiB for the widths of a row or a text, and then room for an answer.
-  constructor(calls, bits) {
+  constructor(calls, bits, module) {
     this.calls = calls;
     this.bits = bits;
+    this.module = module;
     this.input = this.grow(6) * 65536;
     this.output = this.input + 4 * 65536;
     this.room = 2 * 65536;

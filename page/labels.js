@@ -23,15 +23,6 @@ const firstCell = (stock) => Math.min(stock.cells, Math.max(1, Math.trunc(Number
 
 // ---- making
 
-// An article with its symbol and the dots of a module; or its error.
-function itemOf(article, cell, module) {
-  if (article.fault) return article;
-  const symbol = symbolOf(article);
-  if (symbol.refused) return { ...article, fault: { ...remedyOf(article.text, symbol.refused), refused: symbol.refused } };
-  const dots = moduleOf(symbol, cell, module);
-  return dots ? { ...article, symbol, module: dots } : { ...article, fault: tooWide(symbol, cell) };
-}
-
 // Draws all labels, with pauses in which the page can be used. A later run ends an earlier one.
 async function makeLabels() {
   const turn = ++shop.turns, from = performance.now(), stock = stockChosen();
@@ -44,15 +35,14 @@ async function makeLabels() {
   showQuestion(question);
   showNotes(notes);
   showColumns(columns);
-  if (!await each(articles, (article) => items.push(itemOf(article, cell, Number(at("module").value))))) return;
-  // Cases have other labels than articles.
-  const good = items.filter(({ fault }) => !fault), isCase = ({ symbol }) => !symbol.form.groups.length;
-  const plans = [false, true].map((isOne) => planOf(good.filter((item) => isCase(item) === isOne), cell));
+  const layout = new Layout(articles.filter(({ fault }) => !fault), cell, Number(at("module").value));
+  if (!await each(articles, (article) => items.push({ ...article, fault: article.fault ?? layout.measure(article) }))) return;
+  layout.plan();
   shop.made = { stock, dpi, cell, labels, faults, question, isDone: false };
   // Half-drawn labels are neither printed nor saved.
   for (const id of OUTPUTS) at(id).disabled = true;
   const drawn = (item) => {
-    const drawing = item.fault ? item : drawLabel(item, plans[Number(isCase(item))]);
+    const drawing = item.fault ? item : layout.draw(item);
     if (drawing.fault) return faults.push({ ...item, fault: drawing.fault });
     if (labels.length + item.copies > MOST_LABELS) return faults.push({ ...item, fault: { key: "manyLabels", values: [MOST_LABELS] } });
     const before = labels.length;
@@ -217,7 +207,7 @@ function fillStocks() {
 // The modules that a printer can print, in whole dots.
 function fillModules() {
   const stock = stockChosen(), dots = DOTS_IN_MM[stock ? dpiFor(stock) : 300], before = at("module").value;
-  const options = modulesAllowed({ form: { modules: SHOP.modules.cases } }, dots).map((module) => new Option(t("moduleOption", module, (module / dots).toLocaleString(language, { maximumFractionDigits: 3 })), module));
+  const options = modulesAllowed(SHOP.modules.cases, dots).map((module) => new Option(t("moduleOption", module, (module / dots).toLocaleString(language, { maximumFractionDigits: 3 })), module));
   at("module").replaceChildren(new Option(t("automatic"), 0), ...options);
   at("module").value = options.some(({ value }) => value === before) ? before : "0";
 }

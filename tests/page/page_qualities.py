@@ -174,24 +174,6 @@ def tried(page, lists, first):
     })(%s, %d)""" % (json.dumps(lists), first)))
 
 
-def planted(page):
-    """Wrong drawings: the page shows none as good."""
-    make(page, listed(articles(20)))
-    for what, script in (("a bar a dot wider", "boxes[3][2]++"), ("a bar a dot further", "boxes[5][0]++"), ("a bar less", "boxes.pop()"), ("a bar in the quiet zone", "boxes.push([boxes[0][0] - 8, boxes[0][1], 4, boxes[0][3]])"),
-                         ("a short bar", "boxes[7][3] = Math.floor(boxes[7][3] / 3)"), ("a text in the quiet zone", "texts.push({ text: '9', size: 40, left: boxes[0][0] - 12, base: boxes[0][1] + 60, width: 9 })"),
-                         ("two bars that change places", "[boxes[1][2], boxes[8][2]] = [boxes[1][2] + 4, Math.max(1, boxes[8][2] - 4)]")):
-        page.value("""(async () => {
-            const right = globalThis.rightPut ??= putSymbol;
-            putSymbol = (drawing, ...words) => { const fault = right(drawing, ...words), { boxes, texts } = drawing; if (!fault) { %s; } return fault; };
-            document.made = makeLabels();
-            await document.made;
-            putSymbol = right;
-        })()""" % script)
-        same(f"labels with {what}", (told(page)[0], sentence("misdrawn") in told(page)[1]), ("20 lines left out", True))
-    page.value("document.made = makeLabels(), document.made")
-    same("and without", told(page)[0], "20 labels on 1 sheet")
-
-
 def remembers(page):
     """Each error has a text in each language; the page remembers the language and the task."""
     with open(f"{ROOT}/docs/FAULTS.md", encoding="utf-8") as file:
@@ -528,7 +510,6 @@ def main():
     try:
         bad_lists(page)
         hard_lists(page)
-        planted(page)
         damaged_lists(page, 1500)
         in_words(page)
         remembers(page)
