@@ -69,6 +69,15 @@ def test_what_is_in_it(tmp_path):
     assert oct(folder.stat().st_mode & 0o777) == "0o750"
 
 
+def test_the_time_of_a_scan(tmp_path):
+    """It is that at which the scanner read it."""
+    folder, second = tmp_path / "journal", int(time.time()) - 1
+    with Gateway(tmp_path, "--journal", str(folder), port=False) as gateway, gateway.unix_client() as client:
+        assert client.ask(b"scan till-1 2\n").startswith("0 ")
+        assert client.ask(b"0 %d.123\n0 %d.123 %s\n" % (second, second, EAN)).startswith(f"0 {second}.123 ")
+        assert check(folder)[0].startswith(time.strftime("%Y-%m-%dT%H:%M:%S.123Z\ttill-1\t0\t", time.gmtime(second)))
+
+
 def recorded(folder):
     """The answers of a journal by lane, series and number, which must be whole."""
     found = Check(folder)

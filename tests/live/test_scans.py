@@ -349,6 +349,8 @@ def test_a_message_that_is_cut_at_each_place(gateway, text):
     (b"scan \n", "a lane's name has up to 64 letters, digits and . _ : -"),
     (b"watch ../hub\n", "a lane's name has up to 64 letters, digits and . _ : -"),
     (b"watch " + b"x" * 65 + b"\n", "a lane's name has up to 64 letters, digits and . _ : -"),
+    (b"scan till-1 2 0123ABCD\n", "a lane's name has up to 64 letters, digits and . _ : -"),
+    (b"watch till-1 2 0123abcd\n", "a lane's name has up to 64 letters, digits and . _ : -"),
     (b"scan till-1\n]E496385074\n", "a scan is a number, a blank and a text"),
     (b"scan till-1\n" + b"9" * 19 + b"\n", "a scan is a number, a blank and a text"),
     (b"scan till-1\n7 ]E496385074\n", "scan 7 is not the next one of lane till-1"),
