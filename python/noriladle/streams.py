@@ -98,7 +98,7 @@ class Worker:
         """By shard, its node, and the bytes of its largest stream."""
 
     async def run(self) -> None:
-        """Works until it must stop, or ``answer`` fails, and then ends what it has begun."""
+        """Works until it must stop, or ``answer`` fails, and then ends what it has begun. It runs once."""
         try:
             await asyncio.gather(*(_Shard(self, shard).serve() for shard in range(SHARDS)))
         finally:
