@@ -6,12 +6,11 @@ import hashlib
 import io
 import re
 import tarfile
-import zlib
-from functools import lru_cache
 from pathlib import Path
 from typing import Dict, Mapping, NamedTuple, Union
 
 from files import ROOT
+from parts import gzipped
 
 HERE = ROOT / "package" / "debian"
 _CHANGELOG = (HERE / "changelog").read_text("utf-8")
@@ -39,13 +38,6 @@ class Deb(NamedTuple):
 
     control: str
     data: bytes
-
-
-@lru_cache(maxsize=None)
-def gzipped(data: bytes, level: int = 9) -> bytes:
-    """The same bytes with each Python: its own gzip writes the header in two ways. Debian wants the documents at level 9."""
-    packer = zlib.compressobj(level, zlib.DEFLATED, 31)
-    return packer.compress(data) + packer.flush()
 
 
 def packed(tree: Mapping[str, File], top: str = "") -> bytes:

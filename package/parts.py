@@ -2,13 +2,14 @@
 from __future__ import annotations
 
 import base64
-import gzip
 import io
 import json
 import re
 import runpy
 import tempfile
 import zipfile
+import zlib
+from functools import lru_cache
 from pathlib import Path
 from typing import Callable, Dict
 
@@ -49,6 +50,13 @@ def zipped(files: Files) -> bytes:
             told.external_attr, told.create_system, told.compress_type = 0o100644 << 16, 3, zipfile.ZIP_DEFLATED
             packed.writestr(told, data)
     return out.getvalue()
+
+
+@lru_cache(maxsize=None)
+def gzipped(data: bytes, level: int = 9) -> bytes:
+    """The same bytes with each Python: its own gzip writes the header in two ways. Debian wants documents at level 9."""
+    packer = zlib.compressobj(level, zlib.DEFLATED, 31)
+    return packer.compress(data) + packer.flush()
 
 
 def _constant(name: str, data: bytes) -> str:
@@ -128,7 +136,7 @@ def _texts_only(version: str) -> Files:
     faults = {row.number: row.name for row in script["firsts"](rows) if row.number in (*range(1, 12), 40, 42)}
     symbols = re.search(r"static symbols = (\[.*\]);", (ROOT / "page" / "gs1.js").read_text("utf-8"))
     assert symbols
-    module = _constant("MODULE", gzip.compress(file_of("wasm32/gs1_texts.wasm"), 9, mtime=0))
+    module = _constant("MODULE", gzipped(file_of("wasm32/gs1_texts.wasm")))
     return {"texts.module.js": f"// What texts need of the module, packed by gzip. Made by npm/build.\nexport {module}export const VERSION = {version};\n"
                                f"export const FAULTS = {json.dumps(faults)};\nexport const SYMBOLS = {symbols[1]};\n".encode()}
 
