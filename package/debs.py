@@ -14,7 +14,7 @@ from parts import gzipped
 
 HERE = ROOT / "package" / "debian"
 _CHANGELOG = (HERE / "changelog").read_text("utf-8")
-RELEASE = re.sub(r"\Anoriladle \(([^)]*)\)(.|\n)*", r"\1", _CHANGELOG)
+RELEASE = re.findall(r"\Anoriladle \(([^)]*)\)", _CHANGELOG)[0]
 """The version of the packages: that of the newest entry of their changelog."""
 DATE = re.findall(r"^ -- .*>  (.*)$", _CHANGELOG, re.MULTILINE)[0]
 """The date of that entry, and of all files."""

@@ -35,9 +35,9 @@ same "what the program depends on" "$(libc_of "$work/noriladle/usr/bin/gs1_hub")
 same "what the library depends on" "$(libc_of "$work"/libgs1-1/usr/lib/*/libgs1.so.1)" "$(dpkg-deb -f "$folder"/libgs1-1_*_amd64.deb Depends)"
 
 links_to_nothing() {
-    (cd "$1" && grep -roE --include='*.md' '(\]\(|src=")[^()#:" ]+' . | while IFS=: read -r page link; do
+    (cd "$1" && grep -roE --include='*.md' '(\]\(|src=")[^()#" ]+' . | while IFS=: read -r page link; do
         target=${link#']('} target=${target#'src="'}
-        [ -e "$(dirname "$page")/$target" ] || echo "$page: $target"
+        [[ $target == *:* ]] || [ -e "$(dirname "$page")/$target" ] || echo "$page: $target"
     done)
 }
 for name in noriladle libgs1-dev; do
