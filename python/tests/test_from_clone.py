@@ -75,9 +75,11 @@ def listing(folder):
 
 def test_it_answers_and_leaves_the_clone_as_it_is(whole, tmp_path):
     before = listing(whole)
+    path = tmp_path / "my list"
+    path.write_text("9501101530003\n")
     for _ in range(2):
-        run = ran(whole, "check", "-", cache=tmp_path, input="9501101530003\n")
-        assert (run.returncode, run.stderr) == (0, RIGHT) and run.stdout.endswith("(01)09501101530003\n")
+        run = ran(whole, "check", str(path), cache=tmp_path)
+        assert (run.returncode, run.stderr) == (0, RIGHT.replace("standard input", str(path))) and run.stdout.endswith("(01)09501101530003\n")
     run = ran(whole, "page", "--address", "192.168.1.5", cache=tmp_path)
     assert run.returncode == 2 and "--address is for --share" in run.stderr
     assert len([*next(tmp_path.glob("noriladle/clones/*/noriladle/page")).iterdir()]) > 20
