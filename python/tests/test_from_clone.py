@@ -80,6 +80,9 @@ def test_it_answers_and_leaves_the_clone_as_it_is(whole, tmp_path):
     for _ in range(2):
         run = ran(whole, "check", str(path), cache=tmp_path)
         assert (run.returncode, run.stderr) == (0, RIGHT.replace("standard input", str(path))) and run.stdout.endswith("(01)09501101530003\n")
+    (tmp_path / "bin").mkdir()
+    (tmp_path / "bin" / "noriladle").symlink_to(whole / "noriladle")
+    assert ran(tmp_path / "bin", "--version", cache=tmp_path).stdout.startswith("noriladle ")
     run = ran(whole, "page", "--address", "192.168.1.5", cache=tmp_path)
     assert run.returncode == 2 and "--address is for --share" in run.stderr
     assert len([*next(tmp_path.glob("noriladle/clones/*/noriladle/page")).iterdir()]) > 20
