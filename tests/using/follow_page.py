@@ -7,6 +7,7 @@ each command with an empty standard input.
 """
 import subprocess
 import sys
+import tempfile
 
 
 def blocks(page):
@@ -43,10 +44,11 @@ def main():
     ran = differ = 0
     for block in blocks(sys.stdin.read()):
         for command, lines in commands(block):
-            told = subprocess.run(["bash", "-c", command], stdin=subprocess.DEVNULL,
-                                  stdout=subprocess.PIPE, stderr=subprocess.STDOUT)
+            with tempfile.TemporaryFile() as told:  # What a command leaves running may hold it open.
+                subprocess.run(["bash", "-c", command], stdin=subprocess.DEVNULL, stdout=told, stderr=subprocess.STDOUT)
+                told.seek(0)
+                found = told.read().decode("utf-8", "replace")
             wanted = "".join(line + "\n" for line in lines)
-            found = told.stdout.decode("utf-8", "replace")
             ran += 1
             if found != wanted:
                 differ += 1
