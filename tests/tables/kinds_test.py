@@ -11,13 +11,12 @@ import unittest
 ROOT = pathlib.Path(__file__).resolve().parents[2]
 FILES = """
     tables/kinds tables/kinds.tsv tests/commands/kinds.py crates/gs1_c/gs1.h python/noriladle/__init__.py python/noriladle/commands/labels.py
-    npm/index.d.ts page/gs1.js page/symbol.js shop/shop.json tests/embed/library_calls.c tables/remedies.tsv crates/csv_records/src/print/labels.rt
+    npm/index.d.ts page/gs1.js page/symbol.js tests/embed/library_calls.c tables/remedies.tsv crates/csv_records/src/print/labels.rt
     npm/README.md python/README.md tests/alike/npm_answers.mjs
 """.split()
 
-# A seventh kind, and its form.
+# A seventh kind.
 JAN9 = "jan9\tJAN-9\t6\t]E9\t9\t70\t7\t7\tJAN9\tJAN-9\tJAN-9\t963850746\t(01)00000963850746\n"
-FORM = '  "forms": {\n    "jan9": {"identifier": ""},'
 
 
 def read(file):
@@ -40,7 +39,7 @@ class KindsTest(unittest.TestCase):
             for file in FILES:
                 (copy / file).parent.mkdir(parents=True, exist_ok=True)
                 shutil.copy(ROOT / file, copy / file)
-            yield copy, copy / "tables" / "kinds.tsv", copy / "shop" / "shop.json"
+            yield copy, copy / "tables" / "kinds.tsv"
 
     def has_all(self, root):
         said = self.ran(root, "--check")
@@ -50,24 +49,23 @@ class KindsTest(unittest.TestCase):
         self.has_all(ROOT)
 
     def test_a_changed_kind_is_noticed_and_written(self):
-        with self.copied() as (copy, table, shop):
+        with self.copied() as (copy, table):
             change(table, "ean8\tEAN-8\t2\t]E4", "jan8\tJAN-8\t2\t]E3")
-            change(shop, '"ean8": {', '"jan8": {')
             said = self.ran(copy, "--check")
             differ = {line.split(":")[0] for line in said.stdout.splitlines()}
             self.assertEqual((said.returncode, differ), (1, {*FILES[3:]}))
             self.assertEqual(self.ran(copy).returncode, 0)
             self.has_all(copy)
             self.assertIn("GS1_JAN8 = 2", read(copy / "crates" / "gs1_c" / "gs1.h"))
-            self.assertIn('"jan8": {"identifier": "]E3"', read(shop))
 
-    def test_nothing_is_written_if_a_kind_has_no_form(self):
-        with self.copied() as (copy, table, _):
+    def test_nothing_is_written_if_a_list_is_not_there(self):
+        with self.copied() as (copy, table):
             table.write_text(read(table) + JAN9, encoding="utf-8")
+            change(copy / "npm" / "README.md", "in Node and in the browser: ", "")
             before = [read(copy / file) for file in FILES]
             said = self.ran(copy)
             self.assertNotEqual(said.returncode, 0)
-            self.assertIn("shop/shop.json: 0 lists", said.stderr)
+            self.assertIn("npm/README.md: 0 lists", said.stderr)
             self.assertEqual([read(copy / file) for file in FILES], before)
 
     def test_places(self):
@@ -76,14 +74,11 @@ class KindsTest(unittest.TestCase):
         self.assertRegex(said[-1], r"^\d+ files, \d+ lines$")
 
     def test_what_is_left_of_a_new_kind(self):
-        with self.copied() as (copy, table, shop):
+        with self.copied() as (copy, table):
             table.write_text(read(table) + JAN9, encoding="utf-8")
-            change(shop, '  "forms": {', FORM)
             for words in ["init -q", "add ."]:
                 subprocess.run(["git", *words.split()], cwd=copy, check=True)
             self.assertIn("\npage/gs1.js: ", self.ran(copy, "--left").stdout)
             self.assertEqual(self.ran(copy).returncode, 0)
             said = self.ran(copy, "--left").stdout
             self.assertNotIn("page/gs1.js: ", said)
-            # Its form stands away from that of the kind before.
-            self.assertIn("\nshop/shop.json: ", said)
