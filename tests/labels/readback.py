@@ -175,12 +175,12 @@ def files_of(form, *words):
     return sorted(os.path.join(WORK, name) for name in os.listdir(WORK) if name.endswith(f".{form}"))
 
 
-def try_sheet(name, stock, dpi, start):
+def try_sheet(name, stock, dpi, start, *options):
     """Labels of a list on sheets: PDF by two renderers, SVG and PNG."""
     path = os.path.join(LISTS, name)
     labels = labels_of(path)
-    words = [path, "--stock", stock, "--dpi", str(dpi), "--start", str(start)]
-    title = f"{name} on {stock} from {start}, for {dpi} dots an inch"
+    words = [path, "--stock", stock, "--dpi", str(dpi), "--start", str(start), *options]
+    title = " ".join([f"{name} on {stock} from {start}, for {dpi} dots an inch", *options])
     files_of("pdf", *words)
     for at in (300, 600) if (name, stock) == ("kinds.csv", "L7163") else (dpi,):
         pages = pages_by("pdftoppm", "-r", str(at), "-gray", PDF, f"{PAGES}/page")
@@ -260,14 +260,14 @@ def tspl_pictures(data):
 PRINTERS = {"zpl": zpl_pictures, "epl": epl_pictures, "tspl": tspl_pictures}
 
 
-def try_roll(name, stock, dpi, forms):
+def try_roll(name, stock, dpi, forms, *options):
     """Labels of a list on a roll, for label printers."""
     path = os.path.join(LISTS, name)
     for form in forms:
-        file, = files_of(form, path, "--stock", stock, "--dpi", str(dpi))
+        file, = files_of(form, path, "--stock", stock, "--dpi", str(dpi), *options)
         with open(file, "rb") as data:
             pictures = list(PRINTERS[form](data.read()))
-        read_all(f"{name} on {stock}: {form.upper()} of {dpi} dots an inch", pictures, labels_of(path))
+        read_all(" ".join([f"{name} on {stock}: {form.upper()} of {dpi} dots an inch", *options]), pictures, labels_of(path))
 
 
 # ---- digits by pdftotext
@@ -353,17 +353,19 @@ def try_example():
 
 
 def main():
-    for name, stock, dpi, start in [
+    for sheet in [
+            ("prices.csv", "L7163", 300, 1, "--look", "price"), ("kinds.csv", "3424", 600, 1, "--look", "price"),
             ("prices.csv", "3474", 300, 1), ("prices.csv", "L7160", 300, 1), ("prices.csv", "L7163", 300, 5), ("prices.csv", "L7159", 300, 1),
             ("prices.csv", "L7162", 300, 1), ("prices.csv", "L7651", 600, 14), ("prices.csv", "5160", 300, 30),
             ("kinds.csv", "L7163", 300, 1), ("kinds.csv", "3424", 300, 2), ("kinds.csv", "2x10:90x27+5+1@letter", 600, 1),
             ("cases.csv", "3424", 300, 1), ("cases.csv", "3483", 300, 1)]:
-        try_sheet(name, stock, dpi, start)
-    for name, stock, dpi, forms in [
-            ("prices.csv", "57x32", 203, ("zpl", "epl", "tspl")), ("prices.csv", "50x25", 300, ("zpl",)), ("prices.csv", "38.1x21.2", 600, ("zpl",)),
+        try_sheet(*sheet)
+    for roll in [
+            ("prices.csv", "57x32", 203, ("zpl", "epl", "tspl")), ("kinds.csv", "100x50", 203, ("zpl", "tspl"), "--look", "price"),
+            ("prices.csv", "50x25", 300, ("zpl",)), ("prices.csv", "38.1x21.2", 600, ("zpl",)),
             ("kinds.csv", "100x50", 203, ("zpl", "epl", "tspl")), ("kinds.csv", "99014", 600, ("zpl",)),
             ("cases.csv", "152x102", 203, ("zpl", "epl", "tspl")), ("cases.csv", "152x102", 300, ("zpl",))]:
-        try_roll(name, stock, dpi, forms)
+        try_roll(*roll)
     path = os.path.join(LISTS, "cases.csv")
     files_of("pdf", path, "--stock", "3483", "--turn")
     pages = pages_by("pdftoppm", "-r", "300", "-gray", PDF, f"{PAGES}/page")

@@ -66,7 +66,7 @@ class Layout:
         self._cell, self._fonts, self._year, self._bearers, self._terms = cell, fonts, year, look.bearers, _terms(year, "all")
         letters = set("… ").union(*(text for article in articles for text in (*_texts(article), article.answer.text)))
         self._lacking = set(fonts.bold.lacks("".join(letters)))
-        self._look = _Look(cell.aside, cell.above, cell.dots, look.module_mm or 0, look.bars_mm or 0, cell.width, cell.height, False,
+        self._look = _Look(cell.aside, cell.above, cell.dots, look.module_mm or 0, look.bars_mm or 0, cell.width, cell.height, look.is_price_first,
                            (_Font * 2)(*(_lent_font(font, letters) for font in fonts)))
         self._plan = _Plan()
         self._row, self._parts, self._drawn = map(ctypes.create_string_buffer, (_ROW, _MOST_PARTS * _PART.size, _DRAWN.size))
