@@ -3,7 +3,7 @@ import { AIS, COUNTRY_LETTERS, KNOWN_COUNTRIES, countriesOf, countryCodes, curre
 
 // What there is of an element, in this order.
 export function elementOf({ ai, value, date, until, time }) {
-  const countries = countriesOf(ai, value), told = { ai, title: AIS.get(ai)?.title || undefined, value, date, until, time, number: numberOf(ai, value), unit: unitOf(ai),
+  const countries = countriesOf(ai, value), told = { ai, title: AIS.get(ai)?.title || undefined, value, date, until, time, number: /^3[07]$/.test(ai) ? value.replace(/^0+(?=\d)/, "") : numberOf(ai, value), unit: unitOf(ai),
     currency: currencyOf(ai, value), countries: countries.length ? countries : undefined, place: placeOf(ai, value) };
   return Object.fromEntries(Object.entries(told).filter(([, it]) => it !== undefined));
 }

@@ -97,6 +97,12 @@ class Answer {
 
   get gtin() { return gtinOf(this.#found); }
 
+  gtinAs(digits) {
+    if (![8, 12, 13, 14].includes(digits)) throw new RangeError(`a GTIN has 8, 12, 13 or 14 digits, and not ${digits}`);
+    const { gtin } = this, zeros = "0".repeat(14 - digits);
+    return gtin?.startsWith(zeros) ? gtin.slice(zeros.length) : undefined;
+  }
+
   [Symbol.iterator]() { return this.elements[Symbol.iterator](); }
 
   toJSON() { return { identifier: this.identifier ?? null, elements: this.elements }; }

@@ -208,7 +208,7 @@ class Element:
 
     @property
     def number(self) -> Optional[Decimal]:
-        """The number of a measure, an amount, a price, a percentage or a temperature (310n to 369n, 390n to 395n, 433n).
+        """The number of a count, a measure, an amount, a price, a percentage or a temperature (30, 37, 310n to 369n, 390n to 395n, 433n).
 
         >>> Element("3932", "978000195").number
         Decimal('1.95')
@@ -304,6 +304,20 @@ class Answer:
         """The 14 digits of the GTIN, wherever 01 stands; None if there is none, or two that differ."""
         values = {element.value for element in self.elements if element.ai == "01"}
         return values.pop() if len(values) == 1 else None
+
+    def gtin_as(self, digits: int) -> Optional[str]:
+        """The GTIN as 8, 12, 13 or 14 digits, without zeros in front; None if there is no GTIN, or it has more digits.
+
+        >>> answer = read_scan("]E09501101530003", year=2026)
+        >>> answer.gtin, answer.gtin_as(13), answer.gtin_as(12)
+        ('09501101530003', '9501101530003', None)
+
+        :raises ValueError: no GTIN is written with so many digits.
+        """
+        if digits not in (8, 12, 13, 14):
+            raise ValueError(f"a GTIN has 8, 12, 13 or 14 digits, and not {digits}")
+        gtin, zeros = self.gtin, "0" * (14 - digits)
+        return gtin[len(zeros):] if gtin and gtin.startswith(zeros) else None
 
     def __getitem__(self, ai: str) -> Element:
         """The first element with this Application Identifier.

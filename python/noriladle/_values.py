@@ -87,7 +87,9 @@ def _scaled(digits: str, decimals: int) -> Decimal:
 
 
 def number(ai: str, value: str) -> Optional[Decimal]:
-    """The number of a measure, an amount, a price, a percentage or a temperature."""
+    """The number of a count, a measure, an amount, a price, a percentage or a temperature."""
+    if ai in ("30", "37"):
+        return Decimal(int(value))
     if _is_measure(ai) or ai[:3] in ("390", "392", "394", "395"):
         return _scaled(value, int(ai[3]))
     if ai[:3] in ("391", "393"):

@@ -251,6 +251,21 @@ def test_the_gtin_wherever_it_stands(text, gtin):
     assert Answer(None, ()).gtin is None
 
 
+@pytest.mark.parametrize("text, forms", [
+    ("]E496385074", {8: "96385074", 12: "000096385074", 13: "0000096385074", 14: "00000096385074"}),
+    ("]E0012345000065", {8: None, 12: "012345000065", 13: "0012345000065", 14: "00012345000065"}),
+    ("]E09501101530003", {8: None, 12: None, 13: "9501101530003", 14: "09501101530003"}),
+    ("]I119501101530000", {8: None, 12: None, 13: None, 14: "19501101530000"}),
+    ("]C110AB", {8: None, 12: None, 13: None, 14: None}),
+])
+def test_the_gtin_without_zeros_in_front(text, forms):
+    answer = noriladle.read_scan(text, 2026)
+    assert {digits: answer.gtin_as(digits) for digits in forms} == forms
+    for wrong in (0, 11, 15, "13"):
+        with pytest.raises(ValueError):
+            answer.gtin_as(wrong)
+
+
 def test_reads_numbers():
     assert noriladle.read_gtin("9501101530003") == "09501101530003"
     assert noriladle.read_gtin(b"96385074") == "00000096385074"

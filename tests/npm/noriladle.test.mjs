@@ -70,6 +70,7 @@ test("values as data", () => {
     ["4309", "05620000003500000000", "SHIP TO GEO", { place: { latitude: "-33.8000000", longitude: "-10.0000000" } }],
     ["7007", "261231270200", "HARVEST DATE", undefined], ["7007", "261231270131", "HARVEST DATE", { date: "2026-12-31", until: "2027-01-31" }],
     ["7003", "2612312359", "EXPIRY TIME", { date: "2026-12-31", time: "23:59:00" }], ["3370", "001250", "KG PER m²", { number: "1250", unit: "kg/m²" }], ["99", "x", "INTERNAL", {}],
+    ["37", "0012", "COUNT", { number: "12" }], ["30", "0", "VAR. COUNT", { number: "0" }],
   ]) {
     if (others) assert.deepEqual(said(ai, value), [title, true, others]);
     else assert.throws(() => said(ai, value), { number: 9 });
@@ -98,7 +99,9 @@ test("the symbol and the GTIN", () => {
     ["]C110(01)09501101530003", "gs1128", undefined],
   ]) {
     const answer = gs1.readScan(text, 2026);
-    assert.deepEqual([answer.symbol, answer.gtin], [symbol, gtin], text);
+    assert.deepEqual([answer.symbol, answer.gtin, answer.gtinAs(14)], [symbol, gtin, gtin], text);
+    assert.equal(answer.gtinAs(12), gtin?.startsWith("00") ? gtin.slice(2) : undefined);
+    assert.throws(() => answer.gtinAs(11), RangeError);
   }
   const row = (kind, text) => {
     const { quietLeft, quietRight, widths } = gs1.labelSymbol(kind, text, 2026);
