@@ -1,6 +1,8 @@
 // What to do about a refused call, in English: of the call that was asked, and of its text. Each text that it names in place of that one is read
 // by this call. As python/noriladle/_advice.py.
-import { paddedGtin, remedyAlone, remedyOfDigits, remedyOfEither, remedyOfIdentified, remedyOfString, usualRemedy, writtenOtherwise } from "./page.js";
+import {
+  paddedGtin, remedyAlone, remedyOfDigits, remedyOfEither, remedyOfIdentified, remedyOfString, remedyOfTyped, stripped, usualRemedy, writtenOtherwise
+} from "./page.js";
 import { SENTENCES } from "./remedies.js";
 
 // What the symbol of a row says is refused.
@@ -14,6 +16,7 @@ const OF_CALLS = {
     return writtenOtherwise(asked) ?? (text[0] === "]" ? remedyOfIdentified(refusal, asked) : { key: "notScanned" });
   },
   parseElements: (refusal, asked) => writtenOtherwise(asked) ?? remedyOfString(refusal, asked, asked.text, "byte 29"),
+  readText: (refusal, asked) => remedyOfTyped(refusal, { ...asked, text: stripped(asked.text) }),
   readGtin: remedyOfDigits,
   checkDigit({ number, place }, { text, reads }) {
     const digits = text.replace(/(?:[^\S\ufeff]|[\x1c-\x1f\x85\u2010-\u2015-])+/g, "");

@@ -2,7 +2,7 @@
 import { adviceOf, wordsOf } from "./advice.js";
 import { aiAt, associations, doubts, elementOf, needsSeparator } from "./elements.js";
 import { MODULE, VERSION } from "./module.js";
-import { Gs1 as Calls, askFor, greyOf, gtinOf, isGtin, symbolsShown } from "./page.js";
+import { Gs1 as Calls, askFor, greyOf, gtinOf, isGtin, readText, stripped, symbolsShown } from "./page.js";
 
 export { VERSION, associations, doubts };
 
@@ -121,7 +121,16 @@ class Gs1 {
   constructor(calls) {
     this.#calls = calls;
     // For advice about numbers, which any module answers alike.
-    askFor({ gtin: (text) => calls.read("gs1_c_read_gtin", ...calls.put(text), ANY_YEAR), digit: (text) => String(this.checkDigit(text)) });
+    this.#askBy(ANY_YEAR);
+  }
+
+  // Lets the scripts of the page ask this module, by this year and these AIs.
+  #askBy(terms) {
+    const calls = this.#calls, asking = (call, by) => (text) => calls.read(call, ...calls.put(text), by);
+    askFor({
+      gtin: asking("gs1_c_read_gtin", ANY_YEAR), scan: asking("gs1_c_read_message", terms), said: asking("gs1_c_read_data", ANY_YEAR),
+      digit: (text) => String(this.checkDigit(text)),
+    });
   }
 
   readRow(widths, year, options) { return noting({ call: "row" }, () => this.#row(widths, year, options)); }
@@ -130,6 +139,11 @@ class Gs1 {
 
   readScan(text, year, options) {
     return noting(askedOf("readScan", text, (it) => this.#scan(it, year, options)), () => this.#scan(text, year, options));
+  }
+
+  readText(text, year, options) {
+    const ask = (it) => this.#text(it, year, options);
+    return noting(askedOf("readText", text, ask), () => ask(text));
   }
 
   parseElements(text, year, options) {
@@ -158,6 +172,17 @@ class Gs1 {
       // Places do not count a separator at the beginning.
       throw this.#withBefore(error, bytes.subarray([0x1d, 0x5e].includes(bytes[3]) ? 4 : 3).map((byte) => (byte === 0x5e ? 0x1d : byte)), terms);
     }
+  }
+
+  #text(text, year, options) {
+    if (typeof text !== "string") throw new TypeError(`a text is a string, and not ${nameOf(text)}`);
+    const terms = termsOf(year, options), plain = stripped(text);
+    if (/^(\]|https?:\/\/)/i.test(plain)) return this.#scan(plain, year, options);
+    this.#put(bytesOf(plain));
+    this.#askBy(terms);
+    const said = readText(plain), refusal = said.refused ? this.#refusalIn(said.refused) : terms ? undefined : new Refusal(42, "Words");
+    if (refusal) throw refusal;
+    return answerOf(said);
   }
 
   compose(elements, year = new Date().getFullYear()) {

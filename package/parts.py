@@ -144,12 +144,14 @@ def _texts_only(version: str) -> Files:
 _NPM_EXPORT = """\
 export {
   AIS, COUNTRY_LETTERS, Gs1, KNOWN_COUNTRIES, countriesOf, countryCodes, currencyOf, greyOf, gtinOf, isOf, numberOf, paddedGtin, placeOf, remedyAlone,
-  isGtin, remedyOfDigits, remedyOfEither, remedyOfIdentified, remedyOfString, symbolsShown, unitOf, usualRemedy, writtenOtherwise,
+  isGtin, readText, remedyOfDigits, remedyOfEither, remedyOfIdentified, remedyOfString, remedyOfTyped, stripped, symbolsShown, unitOf, usualRemedy,
+  writtenOtherwise,
 };
 
 // The calls of the module that these scripts ask.
 let core;
 export const askFor = (calls) => { core = calls; };
+const refusalOf = (line) => core.said(line);
 """
 
 

@@ -42,7 +42,7 @@ if TYPE_CHECKING:
 __all__ = [
     "Ais", "Answer", "Association", "Box", "Doubt", "Element", "Found", "Kind", "LabelSymbol", "Place", "Refusal", "Symbol", "SymbolKind", "Symbols",
     "associations", "check_digit", "compose", "doubts", "draw_label", "find", "find_dots", "label_symbol", "parse_elements", "read_dots",
-    "read_elements", "read_gtin", "read_picture", "read_row", "read_scan",
+    "read_elements", "read_gtin", "read_picture", "read_row", "read_scan", "read_text",
 ]
 
 __version__ = "2.0.0"
@@ -675,6 +675,33 @@ def read_scan(text: Union[str, bytes], year: Optional[int] = None, *, ais: Ais =
             raise
         # Places do not count a separator at the beginning.
         raise _with_before(refusal, re.sub(b"^\x1d", b"", said[3:].replace(b"^", b"\x1d")), terms)
+
+
+def read_text(text: str, year: Optional[int] = None, *, ais: Ais = "all") -> Answer:
+    """What a text says, as it is printed, typed or pasted:
+
+    - a number of 8, 12, 13 or 14 digits, with blanks and hyphens, such as an ISBN
+    - an element string with each Application Identifier in parentheses or brackets, or with ``^`` or ``"\\x1d"`` as the separator
+    - what a scanner sends behind an identifier, and a GS1 Digital Link, as :func:`read_scan` reads them
+
+    Blanks at the ends, and in element strings with parentheses or brackets, do not count.
+
+        >>> read_text("(01)09501101530003 (17)261231", year=2026)["17"].date
+        datetime.date(2026, 12, 31)
+        >>> read_text("978-3-16-148410-0").gtin
+        '09783161484100'
+
+    :raises Refusal: as :func:`read_scan`; for a number as :func:`read_gtin`, and 40 ``Kind`` for zeros alone; 5 ``UnknownAi`` if
+        there are parentheses elsewhere than around Application Identifiers.
+    """
+    from . import _texts  # It needs this module.
+
+    if not isinstance(text, str):
+        raise TypeError(f"a text is str, and not {type(text).__name__}")
+    try:
+        return _texts.read_text(text, year, ais)
+    except Refusal as refusal:
+        raise _noted(refusal, "read_text", text, year, ais)
 
 
 def read_gtin(text: Union[str, bytes]) -> str:

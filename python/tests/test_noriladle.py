@@ -251,6 +251,40 @@ def test_the_gtin_wherever_it_stands(text, gtin):
     assert Answer(None, ()).gtin is None
 
 
+@pytest.mark.parametrize("text, said", [
+    ("(01)09501101530003(17)261231", "(01)09501101530003(17)261231"), ("(01)09501101530003 (17)261231\n", "(01)09501101530003(17)261231"),
+    ("[10]A(1)[17]261231", "(10)A(1)(17)261231"), ("10AB^17261231", "(10)AB(17)261231"), ("^10AB\x1d17261231", "(10)AB(17)261231"),
+    ("]C110AB", "(10)AB"), ("https://id.gs1.org/01/09501101530003/10/AB", "(01)09501101530003(10)AB"), ("HTTPS://id.gs1.org/01/09501101530003", "(01)09501101530003"),
+    ("978-3-16-148410-0", "(01)09783161484100"), ("977-1144875-00-7", "(01)09771144875007"), (" 9 501101 530003 ", "(01)09501101530003"), ("96385074", "(01)00000096385074"),
+    ("(01)09501101530003(10)", "refused 5 UnknownAi"), ("(10)A(1)", "refused 5 UnknownAi"), ("(310)3001250", "refused 5 UnknownAi 0"), ("(17)261331", "refused 9 ValueDate 0"),
+    ("9501101530004", "refused 3 CheckDigit"), ("00000000", "refused 40 Kind"), ("01234565", "refused 40 Kind"), ("]E3123", "refused 40 Kind"), ("", "refused 1 Length"),
+])
+def test_texts_as_they_are_printed_and_typed(text, said):
+    try:
+        assert noriladle.read_text(text, 2026).text == said
+    except Refusal as error:
+        assert str(error) == said and error.remedy
+        for fix in error.fixes:
+            assert noriladle.read_text(fix, 2026).elements
+
+
+def test_printed_elements_are_read_as_the_same():
+    chance = random.Random(7)
+    elements = [Element(*it) for it in (
+        ("00", "340123450000000017"), ("01", "09501101530003"), ("02", "09501101530003"), ("10", "AB"), ("10", "A-1/2"), ("17", "261231"), ("20", "11"), ("21", "x+1"),
+        ("37", "5"), ("3103", "001250"), ("3932", "978000195"), ("410", "9501101530003"), ("422", "276"), ("423", "276528"), ("7003", "2612312359"), ("8008", "26123112"),
+        ("8020", "R%1"), ("99", "a;b_c"), ("240", "(X)"), ("91", "(01)"))]
+    for _ in range(2_000):
+        listed = chance.sample(elements, chance.randrange(1, 5))
+        answer = noriladle.read_scan("]C1" + noriladle.compose(listed, 2026), 2026)
+        is_plain = not any("(" in it.value for it in listed)
+        for text in (answer.text, answer.text.replace("(", " (")):
+            if is_plain:
+                assert noriladle.read_text(text, 2026).elements == answer.elements
+            else:
+                assert refusal(noriladle.read_text, text, 2026)[0] in (5, 6)
+
+
 @pytest.mark.parametrize("text, forms", [
     ("]E496385074", {8: "96385074", 12: "000096385074", 13: "0000096385074", 14: "00000096385074"}),
     ("]E0012345000065", {8: None, 12: "012345000065", 13: "0012345000065", 14: "00012345000065"}),

@@ -62,6 +62,22 @@ test("the examples of the README", () => {
   assert.throws(() => gs1.readGtin("9501101530004"), { number: 3, fault: "CheckDigit", before: [], ai: undefined });
 });
 
+test("texts as they are printed and typed", () => {
+  for (const [text, said] of [
+    ["(01)09501101530003 (17)261231\n", "(01)09501101530003(17)261231"], ["[10]A(1)[17]261231", "(10)A(1)(17)261231"], ["10AB^17261231", "(10)AB(17)261231"], ["]C110AB", "(10)AB"],
+    ["https://id.gs1.org/01/09501101530003/10/AB", "(01)09501101530003(10)AB"], ["978-3-16-148410-0", "(01)09783161484100"], ["96385074", "(01)00000096385074"],
+    ["(310)3001250", "refused 5 UnknownAi 0"], ["(10)A(1)", "refused 5 UnknownAi"], ["(17)261331", "refused 9 ValueDate 0"], ["9501101530004", "refused 3 CheckDigit"],
+    ["00000000", "refused 40 Kind"], ["01234565", "refused 40 Kind"], ["]E3123", "refused 40 Kind"], ["", "refused 1 Length"],
+  ]) assert.equal(told(() => gs1.readText(text, 2026).text), said, text);
+  assert.equal(gs1.readText("]C110AB", 2026).symbol, "gs1128");
+  assert.deepEqual(thrown(() => gs1.readText("(10)A(1)", 2026)).fixes, ["[10]A(1)"]);
+  assert.deepEqual(thrown(() => gs1.readText("9501101530004", 2026)).fixes, ["9501101530003"]);
+  for (const text of ["9501101530003", "(10)AB", "]C110AB"]) assert.throws(() => gs1.readText(text, 1900), { number: 42 });
+  assert.equal(gs1.readText("(17)510101", 2026)["17"].date, "2051-01-01");
+  assert.throws(() => gs1.readText("(235)AB", 2026, { ais: "profile" }), { number: 5 });
+  assert.throws(() => gs1.readText(9501101530003, 2026), TypeError);
+});
+
 test("values as data", () => {
   const said = (ai, value) => { const [{ ai: _, title, value: same, ...others }] = gs1.parseElements(ai + value, 2026); return [title, same === value, others]; };
   for (const [ai, value, title, others] of [

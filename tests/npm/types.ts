@@ -7,7 +7,7 @@ import { load as loadTexts, type TextAnswer } from "noriladle/texts";
 const gs1 = await load();
 const answer: Answer = gs1.readScan("]E09501101530003", 2026);
 const elements: readonly Gs1Element[] = [...answer];
-const gtin: string | undefined = answer.gtin;
+const gtin: string | undefined = answer.gtin ?? gs1.readText("(01)09501101530003", 2026).gtinAs(13);
 const kind: SymbolKind | undefined = answer.symbol;
 const expiry: string | undefined = answer["17"]?.date;
 const digit: number = gs1.checkDigit("950110153000");
