@@ -3,7 +3,7 @@
 use crate::area::{Area, Size};
 use crate::frame::{Frame, ONE, Spot, over};
 use crate::grid::Grid;
-use crate::patch::{across, along, grid_over};
+use crate::patch::{across, across_most, along, grid_over};
 use crate::reader::Reader;
 use crate::room::RowRoom;
 use crate::said::Furthest;
@@ -17,7 +17,7 @@ use line_reader::Turn;
 
 /// How a patch is looked at: how many lines a dot apart are taken in the mean, how many such rows at most, whether they go along the
 /// middles of the stripes, how close samples are, which blur is taken out, whether the bars are light and what is between them dark, by how much values
-/// come back where they turn, and whether an end is where the way is steepest.
+/// come back where they turn, whether an end is where the way is steepest, and whether rows go across most of the stripes, not by the mean of all.
 #[derive(Clone, Copy)]
 pub(crate) struct Look {
     pub(crate) lines: u32,
@@ -28,6 +28,7 @@ pub(crate) struct Look {
     pub(crate) is_inverted: bool,
     pub(crate) turn: Turn,
     pub(crate) by_slope: bool,
+    pub(crate) by_most: bool,
 }
 
 const USUAL: Look = Look {
@@ -42,6 +43,7 @@ const USUAL: Look = Look {
         least: 1536,
     },
     by_slope: false,
+    by_most: false,
 };
 
 /// Where values turn that come back by a little.
@@ -57,13 +59,17 @@ const FINER: Turn = Turn {
 };
 
 /// The looks, each if those before found nothing.
-pub(crate) const LOOKS: [Look; 10] = [
+pub(crate) const LOOKS: [Look; 11] = [
     Look {
         rows: 24,
         sampling: Sampling::Dots,
         ..USUAL
     },
     USUAL,
+    Look {
+        by_most: true,
+        ..USUAL
+    },
     Look {
         lines: 3,
         rows: 70,
@@ -77,7 +83,6 @@ pub(crate) const LOOKS: [Look; 10] = [
     Look {
         lines: 3,
         rows: 40,
-        is_aslant: true,
         is_inverted: true,
         ..USUAL
     },
@@ -362,7 +367,57 @@ fn is_open(seen: &Seen, grid: &Grid, shown: &Shown) -> bool {
     seen.said.is_some() && !shown.is_near(upper_left) && !shown.is_near(lower_right)
 }
 
-/// Reads a patch, and adds what it shows to what is found; what that took. If a symbol is found, another one may still be seen in part.
+/// Adds what the rows of a grid show to what is found; what that took, and whether rows say something and nothing is found. If a symbol
+/// is found, another one may still be seen in part.
+#[inline(never)]
+fn read_grid(
+    reader: &Reader,
+    grid: &Grid,
+    stripes: Frame,
+    look: &Look,
+    room: &mut RowRoom,
+    shown: &mut Shown,
+    furthest: &mut Furthest,
+) -> (Taken, bool) {
+    let mut tally = Tally::new();
+    let mut taken = Taken::default();
+    for row in 0..grid.count {
+        let row = read_row(reader, grid, row, look, room, &mut tally, furthest);
+        taken = taken.with(row);
+    }
+    let size = Size::of(reader.picture);
+    let found = shown.found;
+    let sure = tally.sure(grid.step);
+    for (seen, is_sure) in tally.all_mut().iter_mut().zip(sure.iter()) {
+        if *is_sure {
+            let Some(lines) = lines_of(reader, grid, seen, look, room) else {
+                continue;
+            };
+            let reach = reach_of(reader, grid, seen, look, room);
+            if let Some(symbol) = placed(seen, grid, stripes, lines, reach, size) {
+                shown.join(symbol, size);
+            }
+        }
+    }
+    if tally.is_short() {
+        shown.drop_more(1);
+    }
+    if shown.found == found {
+        return (taken, tally.says());
+    }
+    taken.parts = 0;
+    for seen in tally.all() {
+        if is_open(seen, grid, shown) {
+            taken.parts = taken.rows;
+        }
+    }
+    (taken, false)
+}
+
+/// If rows say something, and too few of them, so many times as many are looked at.
+const MORE_ROWS: u32 = 4;
+
+/// Reads a patch, and adds what it shows to what is found; what that took.
 pub(crate) fn read_patch(
     reader: &Reader,
     blocks: &Blocks,
@@ -372,43 +427,26 @@ pub(crate) fn read_patch(
     shown: &mut Shown,
     furthest: &mut Furthest,
 ) -> Taken {
-    let stripes = across(blocks, patch);
+    let stripes = if look.by_most {
+        across_most(blocks, patch)
+    } else {
+        across(blocks, patch)
+    };
     let frame = if look.is_aslant {
         along(blocks, patch, stripes)
     } else {
         stripes
     };
     let grid = grid_over(blocks, patch, frame, look.rows);
-    let mut tally = Tally::new();
-    let mut taken = Taken::default();
-    for row in 0..grid.count {
-        let row = read_row(reader, &grid, row, look, room, &mut tally, furthest);
-        taken = taken.with(row);
+    let (taken, is_unsure) = read_grid(reader, &grid, stripes, look, room, shown, furthest);
+    if !is_unsure || grid.step <= ONE {
+        return taken;
     }
-    let size = Size::of(reader.picture);
-    let found = shown.found;
-    let sure = tally.sure(grid.step);
-    for (seen, is_sure) in tally.all_mut().iter_mut().zip(sure.iter()) {
-        if *is_sure {
-            let Some(lines) = lines_of(reader, &grid, seen, look, room) else {
-                continue;
-            };
-            let reach = reach_of(reader, &grid, seen, look, room);
-            if let Some(symbol) = placed(seen, &grid, stripes, lines, reach, size) {
-                shown.join(symbol, size);
-            }
-        }
+    let rows = look.rows.saturating_mul(MORE_ROWS);
+    let grid = grid_over(blocks, patch, frame, rows);
+    let (more, _) = read_grid(reader, &grid, stripes, look, room, shown, furthest);
+    Taken {
+        dots: taken.dots.saturating_add(more.dots),
+        ..more
     }
-    if tally.is_short() {
-        shown.drop_more(1);
-    }
-    if shown.found > found {
-        taken.parts = 0;
-        for seen in tally.all() {
-            if is_open(seen, &grid, shown) {
-                taken.parts = taken.rows;
-            }
-        }
-    }
-    taken
 }

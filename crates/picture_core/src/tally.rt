@@ -165,6 +165,16 @@ impl Tally {
         }
     }
 
+    /// Whether a row says something.
+    pub(crate) fn says(&self) -> bool {
+        for seen in self.all.as_slice() {
+            if seen.said.is_some() {
+                return true;
+            }
+        }
+        false
+    }
+
     /// Whether there was no room for a symbol.
     pub(crate) fn is_short(&self) -> bool {
         self.is_short
