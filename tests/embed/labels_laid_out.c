@@ -145,6 +145,17 @@ static void draw_all(void) {
     printf("%ld labels drawn\n", drawn);
 }
 
+/* A price that is as high as its band is drawn, whatever its quotients are rounded to. */
+static void draw_high_prices(void) {
+    struct gs1_article article = {.text = bytes("9501101530003"), .kind = GS1_EAN13, .price = letters(1, "1.20"), .name = letters(0, "Rye")};
+    for (uint16_t ascent = 14000; ascent < 17000; ascent++)
+        for (uint32_t price_first = 0; price_first < 2; price_first++) {
+            struct gs1_look look = look_of(11.811, price_first ? 63.5 : 99.1, 38.1, price_first);
+            look.regular.ascent = look.bold.ascent = ascent;
+            check(draw(&look, &article) == 0, "a high price");
+        }
+}
+
 static double seconds(void) {
     struct timespec t;
     clock_gettime(CLOCK_MONOTONIC, &t);
@@ -243,6 +254,7 @@ int main(int argc, char **argv) {
         return drawn != count;
     }
     draw_all();
+    draw_high_prices();
     refuse();
     printf("%ld checks of laid out labels, %ld wrong\n", checks, wrong);
     return wrong != 0;

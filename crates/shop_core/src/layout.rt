@@ -194,6 +194,11 @@ impl<'a> Sheet<'a> {
         self.bold(Field::Name).fitted(width, sizes)
     }
 
+    /// The size of a price whose line is as high as there is room. A little less, since quotients are rounded.
+    pub(crate) fn size_in(&self, room: f64) -> f64 {
+        0.999_999 * room / self.plan.fonts.bold.pitch()
+    }
+
     pub(crate) fn price(&self, width: f64, largest: f64, smallest_mm: f64) -> Block<'a> {
         let sizes = Sizes {
             largest,
@@ -288,12 +293,8 @@ impl<'a> Sheet<'a> {
             - top
             - self.smalls_height(smalls, column.width, sizes)
             - old.height();
-        let pitch = self.plan.fonts.bold.pitch();
-        let price = self.price(
-            column.width,
-            self.common().beside.min(room / pitch),
-            LEAST_PRICE_MM,
-        );
+        let largest = self.common().beside.min(self.size_in(room));
+        let price = self.price(column.width, largest, LEAST_PRICE_MM);
         if price.height() > room {
             return Err(LabelFault::NoPlace);
         }

@@ -30,7 +30,7 @@ impl<'a> Sheet<'a> {
             0.99
         };
         let wide = self.room() * share / font.width(text, 0, text.len());
-        let price = self.price(self.room(), wide.min(room / font.pitch()), LEAST_PRICE_MM);
+        let price = self.price(self.room(), wide.min(self.size_in(room)), LEAST_PRICE_MM);
         if price.height() > room {
             return Err(LabelFault::NoPlace);
         }
