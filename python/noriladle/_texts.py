@@ -4,7 +4,7 @@ from __future__ import annotations
 import re
 from typing import List, Optional, Tuple
 
-from . import Ais, Answer, Refusal, _is_gtin, _noted, read_gtin, read_scan
+from . import Ais, Answer, Refusal, _bytes, _is_gtin, _library, _noted, _read, _terms, read_scan
 
 BRACKETED = {"(": re.compile(r"\((\d{2,4})\)([^()]+)"), "[": re.compile(r"\[(\d{2,4})\]([^][]+)")}
 _BLANKS = re.compile(r"[\s\xa0\u2007\u202f]+")
@@ -38,7 +38,8 @@ def read_text(text: str, year: Optional[int], ais: Ais = "all") -> Answer:
     # Eight digits that begin with 0 are a GTIN-8 or a UPC-E: the library refuses to guess.
     if len(digits) == 8 and digits[0] == "0" and digits.isascii() and digits.isdecimal():
         return read_scan(digits, year, ais=ais)
-    return read_scan(f"^01{read_gtin(digits)}", year, ais=ais)
+    number = _bytes(digits)
+    return _read(_library.gs1_read_gtin, number, len(number), _terms(year, ais))
 
 
 def _read_printed(pairs: List[Tuple[str, str]], year: Optional[int], ais: Ais) -> Answer:
