@@ -192,37 +192,32 @@ fn spots_of(seen: &Seen, grid: &Grid, reach: Reach) -> [Spot; 4] {
     ]
 }
 
-/// How many steps are made through the rows of what was seen, which are asked whether their lines show it.
+/// How many steps are made through what was seen, whose lines are asked whether they show it.
 const STEPS: u8 = 31;
 
-/// The lines of two rows that show what was seen, from one of their ends: of some rows the first such and the next one.
+/// Two groups of lines that show what was seen, from one of their ends: the first such in a reach and the next one that is beside it.
 fn lines_from(
     reader: &Reader,
     grid: &Grid,
     seen: &Seen,
     look: &Look,
     room: &mut RowRoom,
+    reach: Reach,
     is_turned: bool,
 ) -> Option<SeenLines> {
     let said = seen.said.as_ref()?;
-    let rows = over(seen.last.v.saturating_sub(seen.first.v), grid.step.max(1));
-    let mut asked = -1;
     let mut found: Option<SeenLine> = None;
-    for part in 0..STEPS + 1 {
-        let row = over(rows.saturating_mul(i64::from(part)), i64::from(STEPS));
-        if row == asked {
-            continue;
-        }
-        asked = row;
-        let line = line_in(reader, grid, seen, look, row, rows, is_turned);
-        if line_shows(reader.picture, reader.year, said, &line, room).is_none() {
+    for step in 0..STEPS + 1 {
+        let line = line_in(reader, grid, look, reach, step, is_turned);
+        let is_beside = match found {
+            Some(first) => first.is_before(&line),
+            None => true,
+        };
+        if !is_beside || line_shows(reader.picture, reader.year, said, &line, room).is_none() {
             continue;
         }
         match found {
             Some(first) => {
-                if !first.is_before(&line) {
-                    continue;
-                }
                 return Some(SeenLines {
                     first,
                     x: line.x,
@@ -236,27 +231,43 @@ fn lines_from(
     None
 }
 
-/// The lines of a row of what was seen, from the first one on, or if they are turned round from the last one back.
+/// The lines so many steps from the top of a reach, or if they are turned round from its bottom.
 fn line_in(
+    reader: &Reader,
+    grid: &Grid,
+    look: &Look,
+    reach: Reach,
+    step: u8,
+    is_turned: bool,
+) -> SeenLine {
+    let steps = if is_turned {
+        STEPS.saturating_sub(step)
+    } else {
+        step
+    };
+    let height = reach.bottom.saturating_sub(reach.top);
+    let way = over(height.saturating_mul(i64::from(steps)), i64::from(STEPS));
+    let (_, line) = grid.lines_of(reader.picture, reach.top.saturating_add(way), look);
+    if is_turned { line.turned_round() } else { line }
+}
+
+/// Two groups of lines in a reach that show what was seen. Ends between turns show it from one side.
+fn lines_in(
     reader: &Reader,
     grid: &Grid,
     seen: &Seen,
     look: &Look,
-    row: i64,
-    rows: i64,
-    is_turned: bool,
-) -> SeenLine {
-    let row = if is_turned {
-        rows.saturating_sub(row)
-    } else {
-        row
-    };
-    let v = seen.first.v.saturating_add(row.saturating_mul(grid.step));
-    let (_, line) = grid.lines_of(reader.picture, v, look);
-    if is_turned { line.turned_round() } else { line }
+    room: &mut RowRoom,
+    reach: Reach,
+) -> Option<SeenLines> {
+    let lines = lines_from(reader, grid, seen, look, room, reach, false);
+    if lines.is_some() {
+        return lines;
+    }
+    lines_from(reader, grid, seen, look, room, reach, true)
 }
 
-/// The lines of two rows that show what was seen. Ends between turns show it from one side.
+/// Those between its first row and its last one, or else up to the rows beside them.
 fn lines_of(
     reader: &Reader,
     grid: &Grid,
@@ -264,11 +275,17 @@ fn lines_of(
     look: &Look,
     room: &mut RowRoom,
 ) -> Option<SeenLines> {
-    let lines = lines_from(reader, grid, seen, look, room, false);
+    let top = seen.first.v;
+    let bottom = seen.last.v;
+    let lines = lines_in(reader, grid, seen, look, room, Reach { top, bottom });
     if lines.is_some() {
         return lines;
     }
-    lines_from(reader, grid, seen, look, room, true)
+    let reach = Reach {
+        top: top.saturating_sub(grid.step),
+        bottom: bottom.saturating_add(grid.step),
+    };
+    lines_in(reader, grid, seen, look, room, reach)
 }
 
 /// How often the way from a row that shows a symbol to the next one, which does not, is halved.
