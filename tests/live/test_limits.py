@@ -15,6 +15,7 @@ import pytest
 import websockets
 
 from gateway_and_scanners import NORILADLE, ROW, Client, Gateway, Serial
+from noriladle import _gateway
 from noriladle._door import who
 from noriladle._gateway import CUT, PAUSE
 from program_and_rows import READ
@@ -386,6 +387,33 @@ def test_lines_without_an_end_take_turns(tmp_path):
         room = sum(its.getsockopt(socket.SOL_SOCKET, socket.SO_SNDBUF) for its in held)
         print(f"\n{sent / 1e6:.0f} MB in {took:.1f} s, of which {room / 1e6:.0f} MB may wait")
         assert sent - 2 * room < (took / PAUSE + 2 * len(held)) * CUT
+
+
+def test_twenty_endless_lines_take_turns(monkeypatch):
+    """The same without sockets, so that it does not depend on the machine's speed."""
+    monkeypatch.setattr(_gateway, "PAUSE", 0.05)
+    reads = itertools.count()
+
+    class Endless:
+        async def read(self, most):
+            next(reads)
+            return b"1" * most
+
+    async def skip(lock):
+        its = object.__new__(_gateway.Connection)
+        its.reader = Endless()
+        async for _ in its.turns(lock):
+            pass
+
+    async def test():
+        lock, begin = asyncio.Lock(), time.monotonic()
+        _, tasks = await asyncio.wait([asyncio.ensure_future(skip(lock)) for _ in range(20)], timeout=1)
+        count, took = next(reads), time.monotonic() - begin
+        for it in tasks:
+            it.cancel()
+        assert len(tasks) == 20 < count <= took / 0.05 + 21
+
+    asyncio.run(test())
 
 
 def flood(path, count):
