@@ -1,11 +1,15 @@
 """``./noriladle`` of a clone: read-only, by another user, from a zip, with a stale or damaged release, and on a bare Debian."""
+import gzip
+import hashlib
 import importlib.util
 import os
+import platform
 import re
 import shutil
 import subprocess
 import sys
 import tempfile
+import time
 import zipfile
 from pathlib import Path
 
@@ -15,8 +19,8 @@ ROOT = Path(__file__).resolve().parents[2]
 SHELF = "examples/shelf.csv"
 NOBODY = 65534
 RIGHT = "standard input: 1 line, and it is right\n"
-NEEDED = ("VERSION", "crates.txt", "crates/digits_core/", "embed/", "examples/shelf.csv", "noriladle", "package/", "page/", "python/", "release/",
-          "shop/", "tables/remedies")
+NEEDED = ("VERSION", "crates.txt", "crates/digits_core/", "embed/", "examples/shelf.csv", "gs1_hub", "noriladle", "package/",
+          "page/", "python/", "release/", "shop/", "tables/remedies")
 """What copies have of the clone. Their release says that it is of these few sources."""
 
 
@@ -192,6 +196,23 @@ def test_a_new_release_and_a_new_module_are_taken(clone, tmp_path):
     folder = next((tmp_path / "cache" / "noriladle" / "clones").iterdir()) / "noriladle"
     assert (folder / "_new.py").exists() and not (folder / "streams.py").is_symlink()
     assert "some digit" in (folder / "remedies.json").read_text("utf-8")
+    name, manifest = f"{platform.machine()}/libgs1.so", clone / "release" / "MANIFEST"
+    newer = gzip.decompress((clone / "release" / f"{name}.gz").read_bytes()) + b"\0"
+    (clone / "release" / f"{name}.gz").write_bytes(gzip.compress(newer))
+    line = f"{name} {hashlib.sha256(newer).hexdigest()} {len(newer)}"
+    manifest.write_text(re.sub(f"^{name} .*$", line, manifest.read_text("ascii"), flags=re.MULTILINE), "ascii")
+    assert ran(clone, "--version", cache=tmp_path / "cache").returncode == 0
+    assert (folder / "libgs1.so").read_bytes() == newer
+
+
+def test_the_services_find_the_program_of_the_clone(clone, tmp_path):
+    words = [str(clone / "noriladle"), "gateway", "--unix", str(tmp_path / "hub")]
+    env = {"PATH": "/usr/bin:/bin", "HOME": str(tmp_path), "XDG_CACHE_HOME": str(tmp_path / "cache")}
+    with subprocess.Popen(words, env=env, stderr=subprocess.DEVNULL) as gateway:
+        while gateway.poll() is None and not (tmp_path / "hub").exists():
+            time.sleep(0.05)
+        assert gateway.poll() is None
+        gateway.terminate()
 
 
 def test_a_cache_that_cannot_be_written(whole, tmp_path):
