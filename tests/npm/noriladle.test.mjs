@@ -49,6 +49,7 @@ test("the examples of the README", () => {
   const answer = gs1.readScan("]C13103001250\x1d17261231", 2026), day = { ai: "17", title: "USE BY or EXPIRY", value: "261231", date: "2026-12-31" };
   assert.deepEqual([answer["3103"].number, answer["3103"].unit], ["1.250", "kg"]);
   assert.deepEqual(answer["17"], day);
+  assert.equal(gs1.readText("978-3-16-148410-0", 2026).gtinAs(13), "9783161484100");
   assert.equal(answer["01"], undefined);
   assert.deepEqual([...answer], answer.elements);
   assert.deepEqual(gs1.parseElements("10A\x1d17261231", 2026), [{ ai: "10", title: "BATCH/LOT", value: "A" }, day]);
