@@ -1,18 +1,21 @@
-// Labels as the proved module lays them out (gs1_measure, gs1_plan and gs1_draw of gs1.h): dark boxes of whole dots, and texts in rectangles.
+// Labels as the proved module lays them out (gs1_measure, gs1_plan and gs1_draw of gs1.h): dark boxes of whole dots,
+// and texts in rectangles.
 "use strict";
 
 const LOGISTIC_MM = 0.495, MOST_PARTS = 400;
 
 // The bytes of the structs of gs1.h.
-const SIZES = { look: 96, font: 24, article: 152, letters: 16, measure: 12, plan: 48, part: 32, drawing: 24, row: 8192 };
+const SIZES = {
+  look: 96, font: 24, article: 152, letters: 16, measure: 12, plan: 48, part: 32, drawing: 24, row: 8192
+};
 
 // The errors of labels by their numbers in gs1.h, and what is said of them in shop/.
 const SAID_OF_LABELS = { 53: "noBars", 54: "noPlace", 55: "noHeight", 56: "manyLines" };
 
 // An empty label, and how much stays white at its sides, above and below. Lengths are dots.
 function cellOf(stock, dots) {
-  const [width, height] = [stock.width, stock.height].map((length) => Math.floor(length * dots)), [aside, above] = [stock.aside, stock.above].map((length) => length * dots);
-  return { dots, width, height, aside, above };
+  const [width, height] = [stock.width, stock.height].map((length) => Math.floor(length * dots));
+  return { dots, width, height, aside: stock.aside * dots, above: stock.above * dots };
 }
 
 // The texts of a label by their numbers in gs1.h: its name, its price and its further lines.
@@ -34,8 +37,9 @@ class Layout {
     this.cell = cell;
     this.count = 0;
     this.fonts = [false, true].map((isBold) => fontOf([...signs], isBold));
-    this.take({ look, article, plan, drawing, row, parts: MOST_PARTS * part, measures: articles.length * measure, regular: this.fonts[0].widths.byteLength,
-      bold: this.fonts[1].widths.byteLength, texts: 4 * longest + 64 });
+    const [regular, bold] = this.fonts.map(({ widths }) => widths.byteLength);
+    const parts = MOST_PARTS * part, measures = articles.length * measure, texts = 4 * longest + 64;
+    this.take({ look, article, plan, drawing, row, parts, measures, regular, bold, texts });
     this.lendLook(dots);
   }
 
@@ -43,7 +47,11 @@ class Layout {
   take(sizes) {
     const module = Layout.module ??= gs1.another();
     let end = module.input;
-    this.at = Object.fromEntries(Object.entries(sizes).map(([name, bytes]) => [name, (end += Math.ceil(bytes / 8) * 8) - Math.ceil(bytes / 8) * 8]));
+    this.at = {};
+    for (const [name, bytes] of Object.entries(sizes)) {
+      this.at[name] = end;
+      end += Math.ceil(bytes / 8) * 8;
+    }
     const more = Math.ceil((end - module.calls.memory.buffer.byteLength) / 65536);
     if (more > 0) module.grow(more);
     this.calls = module.calls;
@@ -70,7 +78,8 @@ class Layout {
   }
 
   lend(article) {
-    const { view, at, memory } = this, { written } = new TextEncoder().encodeInto(article.text, new Uint8Array(memory, at.texts)), told = fieldsOf(article);
+    const { view, at, memory } = this, told = fieldsOf(article);
+    const { written } = new TextEncoder().encodeInto(article.text, new Uint8Array(memory, at.texts));
     let end = at.texts + Math.ceil(written / 8) * 8;
     this.point(at.article, at.texts, written);
     for (let field = 0; field < 8; field++) {
@@ -85,9 +94,9 @@ class Layout {
 
   // Takes an article's measure for the plan, or returns why it has no label.
   measure(article) {
-    const { at } = this;
+    const { at } = this, place = at.measures + SIZES.measure * this.count;
     this.lend(article);
-    const number = this.calls.gs1_c_measure(BigInt(at.look), BigInt(at.article), core.terms, BigInt(at.measures + SIZES.measure * this.count));
+    const number = this.calls.gs1_c_measure(BigInt(at.look), BigInt(at.article), core.terms, BigInt(place));
     this.count += number === 0;
     return this.faultOf(number, article);
   }
@@ -101,11 +110,14 @@ class Layout {
   draw(article) {
     const { view, at } = this;
     this.lend(article);
-    const number = this.calls.gs1_c_draw(BigInt(at.look), BigInt(at.plan), BigInt(at.article), core.terms, BigInt(at.row), BigInt(SIZES.row),
-      BigInt(at.parts), BigInt(MOST_PARTS), BigInt(at.drawing)), fault = this.faultOf(number, article);
+    const asked = [at.look, at.plan, at.article].map(BigInt);
+    const lent = [at.row, SIZES.row, at.parts, MOST_PARTS, at.drawing].map(BigInt);
+    const fault = this.faultOf(this.calls.gs1_c_draw(...asked, core.terms, ...lent), article);
     if (fault) return { fault };
-    const drawing = { boxes: [], texts: [], warnings: [], item: article }, words = new Uint16Array(this.memory, at.parts, view.getUint32(at.drawing, true) * SIZES.part / 2);
-    const told = Object.entries({ ...fieldsOf(article), 8: symbolOf(article).digits }).reduce((all, [field, text]) => ({ ...all, [field]: Array.from(text) }), {});
+    const drawing = { boxes: [], texts: [], warnings: [], item: article }, count = view.getUint32(at.drawing, true);
+    const words = new Uint16Array(this.memory, at.parts, count * SIZES.part / 2);
+    const told = { ...fieldsOf(article), 8: symbolOf(article).digits };
+    for (const [field, text] of Object.entries(told)) told[field] = Array.from(text);
     for (let i = 0; i < words.length; i += SIZES.part / 2) {
       const box = [words[i], words[i + 1], words[i + 2], words[i + 3]];
       if ((words[i + 7] & 255) === 2) this.putText(drawing, told[words[i + 4]], box, at.parts + 2 * i);
@@ -117,23 +129,26 @@ class Layout {
 
   // Puts the letters of a part into a drawing, with a warning if their text goes on.
   putText({ texts, warnings }, told, box, at) {
-    const [field, from, count] = [8, 10, 12].map((i) => this.view.getUint16(at + i, true)), flags = this.view.getUint8(at + 15);
-    const [size, left, base, cell] = [16, 20, 24, 28].map((i) => this.view.getUint32(at + i, true) / 64), isCut = flags & 1, isBold = (flags & 2) > 0;
-    const signs = told.slice(from, from + count);
+    const [field, from, count] = [8, 10, 12].map((i) => this.view.getUint16(at + i, true));
+    const [size, start, base, cell] = [16, 20, 24, 28].map((i) => this.view.getUint32(at + i, true) / 64);
+    const flags = this.view.getUint8(at + 15), isCut = flags & 1, isBold = (flags & 2) > 0;
+    const signs = told.slice(from, from + count), text = signs.join("") + (isCut ? "…" : "");
     if (isCut) {
       const begin = field === 7 ? told.lastIndexOf("\n", from - 1) + 1 : 0;
-      warnings.push({ key: "cut", values: [`${told.slice(begin, from + count).join("").replace(/\s+/g, " ")}…`], rank: 0 });
+      const front = told.slice(begin, from + count).join("").replace(/\s+/g, " ");
+      warnings.push({ key: "cut", values: [`${front}…`], rank: 0 });
     }
     // Letters such as j begin left of their origin.
-    texts.push({ text: signs.join("") + (isCut ? "…" : ""), isBold, size, left: left + size * inkOf(signs[0], isBold).left, base, cell, box });
+    texts.push({ text, isBold, size, left: start + size * inkOf(signs[0], isBold).left, base, cell, box });
   }
 
   // Warns if the standard asks for other modules or bars than these.
   warn({ warnings }, kind) {
     const { view, at: { drawing }, cell: { dots } } = this, length = (at) => view.getUint16(drawing + at, true) / dots;
     const nominal = view.getUint32(drawing + 4, true) / 64 / dots, high = length(14) - length(12), size = length(18);
-    if (high < nominal - 0.1) warnings.push({ key: "low", values: [length1(high), length1(nominal)], rank: high / nominal });
-    if (isOfCase(kind) && size < LOGISTIC_MM - 1e-6) warnings.push({ key: "narrow", values: [length3(size), length3(LOGISTIC_MM)], rank: size });
+    const warn = (key, rank, ...values) => warnings.push({ key, values, rank });
+    if (high < nominal - 0.1) warn("low", high / nominal, length1(high), length1(nominal));
+    if (isOfCase(kind) && size < LOGISTIC_MM - 1e-6) warn("narrow", size, length3(size), length3(LOGISTIC_MM));
   }
 
   // What is wrong, by the number of the error; nothing for 0.
@@ -169,19 +184,23 @@ function neededFor(kind, { quiets, modules }, module, aside) {
 }
 
 function tooWide(kind, symbol, cell) {
-  const finest = Math.max(...Object.keys(DOTS_IN_MM)), dots = DOTS_IN_MM[finest], aside = cell.aside / cell.dots;
-  const module = modulesAllowed(modulesOf(kind), cell.dots)[0] / cell.dots, least = modulesAllowed(modulesOf(kind), dots)[0] / dots;
+  const finest = Math.max(...Object.keys(DOTS_IN_MM)), aside = cell.aside / cell.dots;
+  const leastOf = (dots) => modulesAllowed(modulesOf(kind), dots)[0] / dots;
+  const [module, least] = [cell.dots, DOTS_IN_MM[finest]].map(leastOf);
   const ways = [{ key: "wider", values: [Math.ceil(neededFor(kind, symbol, module, aside))] }];
   if (neededFor(kind, symbol, least, aside) <= cell.width / cell.dots) ways.push({ key: "finer", values: [finest] });
   if (kind === "gs1128") ways.push({ key: "fewer" });
-  return { key: "tooWide", values: [length1(cell.width / cell.dots), length3(module), length1(module * symbol.modules), ways] };
+  const lengths = [length1(cell.width / cell.dots), length3(module), length1(module * symbol.modules)];
+  return { key: "tooWide", values: [...lengths, ways] };
 }
 
 // ---- pieces
 
 // Where a text in one piece stands by its middle, and its width; or each of its characters.
 function piecesOf({ text, size, isBold, left, cell, box }) {
-  if (cell) return Array.from(text, (sign, i) => ({ text: sign, middle: left + (i + 0.5) * cell, wide: widthOfText(sign, isBold) * size }));
-  const wide = Math.min(widthOfText(text, isBold) * size, box[0] + box[2] - left);
+  const wideOf = (signs) => widthOfText(signs, isBold) * size;
+  const placed = (sign, i) => ({ text: sign, middle: left + (i + 0.5) * cell, wide: wideOf(sign) });
+  if (cell) return Array.from(text, placed);
+  const wide = Math.min(wideOf(text), box[0] + box[2] - left);
   return [{ text, middle: left + wide / 2, wide }];
 }

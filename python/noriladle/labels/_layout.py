@@ -63,13 +63,16 @@ class Layout:
     """Lays out the labels of a list."""
 
     def __init__(self, cell: Cell, fonts: Fonts, look: Look, year: int, articles: Sequence[Article]) -> None:
-        self._cell, self._fonts, self._year, self._bearers, self._terms = cell, fonts, year, look.bearers, _terms(year, "all")
+        self._cell, self._fonts, self._bearers = cell, fonts, look.bearers
+        self._year, self._terms = year, _terms(year, "all")
         letters = set("… ").union(*(text for article in articles for text in (*_texts(article), article.answer.text)))
         self._lacking = set(fonts.bold.lacks("".join(letters)))
-        self._look = _Look(cell.aside, cell.above, cell.dots, look.module_mm or 0, look.bars_mm or 0, cell.width, cell.height, look.is_price_first,
-                           (_Font * 2)(*(_lent_font(font, letters) for font in fonts)))
+        lent_fonts = (_Font * 2)(*(_lent_font(font, letters) for font in fonts))
+        self._look = _Look(cell.aside, cell.above, cell.dots, look.module_mm or 0, look.bars_mm or 0,
+                           cell.width, cell.height, look.is_price_first, lent_fonts)
         self._plan = _Plan()
-        self._row, self._parts, self._drawn = map(ctypes.create_string_buffer, (_ROW, _MOST_PARTS * _PART.size, _DRAWN.size))
+        sizes = _ROW, _MOST_PARTS * _PART.size, _DRAWN.size
+        self._row, self._parts, self._drawn = map(ctypes.create_string_buffer, sizes)
 
     def item(self, article: Article) -> Item:
         """An article with its measure.
@@ -99,17 +102,20 @@ class Layout:
 
         :raises ValueError: it has no room.
         """
-        self._check(_library.gs1_draw(_at(self._look), self._plan, _at(item.lent), self._terms, self._row, _ROW, self._parts, _MOST_PARTS,
-                                      self._drawn), item.article)
+        fault = _library.gs1_draw(_at(self._look), self._plan, _at(item.lent), self._terms,
+                                  self._row, _ROW, self._parts, _MOST_PARTS, self._drawn)
+        self._check(fault, item.article)
         count, nominal, width, height, top, end, _, module = _DRAWN.unpack(self._drawn)
         drawing = Drawing(width, height)
         self._put(drawing, item.article, self._parts.raw[:count * _PART.size])
         dots, high = self._cell.dots, (end - top) / self._cell.dots
         wanted = nominal / 64 / dots
         if high < wanted - 0.1:
-            drawing.warnings.append(Warned("low", (localized(f"{high:.1f}"), localized(f"{wanted:.1f}")), high / wanted))
+            lengths = localized(f"{high:.1f}"), localized(f"{wanted:.1f}")
+            drawing.warnings.append(Warned("low", lengths, high / wanted))
         if not item.measure.retail and module / dots < _LOGISTIC_MM - 1e-6:
-            drawing.warnings.append(Warned("narrow", (localized(f"{module / dots:.3f}"), localized(f"{_LOGISTIC_MM}")), module))
+            lengths = localized(f"{module / dots:.3f}"), localized(f"{_LOGISTIC_MM}")
+            drawing.warnings.append(Warned("narrow", lengths, module))
         return drawing
 
     def _put(self, drawing: Drawing, article: Article, parts: bytes) -> None:
@@ -117,7 +123,8 @@ class Layout:
         behind = _PART.size * parts[_INK::_PART.size].count(_BAR)
         drawing.dark = parts[:behind]
         texts = dict(zip((0, 1, _LINES, 8), (*_texts(article), _symbol(article, self._year).text)))
-        for left, top, wide, high, field, first, count, ink, flags, size, start, base, step in _PART.iter_unpack(parts[behind:]):
+        for left, top, wide, high, *letters in _PART.iter_unpack(parts[behind:]):
+            field, first, count, ink, flags, size, start, base, step = letters
             if ink != _LETTERS:
                 drawing.dark += BOX.pack(left, top, wide, high)
                 continue
