@@ -30,7 +30,8 @@ from test_logs import Blocked, small_pipe
 from test_rights import Authority
 
 LIMIT = 450
-SECONDS = 4.0
+SECONDS, FEWEST = 4.0, 20
+"""How long each fault lasts, and it goes on until so many scans were answered: a busy machine takes longer."""
 MOST = 0.1
 NUMBERS = itertools.count()
 TICK = os.sysconf("SC_CLK_TCK")
@@ -328,11 +329,11 @@ def test_a_healthy_lane(tmp_path, control, name):
         beginning = threading.Thread(target=go_on, args=(fault, lanes[0].name), daemon=True)
         begin = time.monotonic()
         beginning.start()
-        while beginning.is_alive() or time.monotonic() < begin + SECONDS:
+        while beginning.is_alive() or time.monotonic() < begin + SECONDS or len(lanes[0].times) <= FEWEST:
             for lane in lanes:
                 lane.scan()
             time.sleep(0.01)
     its, other = lanes
     print(f"\n{name}: {len(its.times)} scans, median {statistics.median(its.times) * 1e3:.1f} ms, longest {max(its.times) * 1e3:.1f} ms, "
           f"on this machine {max(its.all) * 1e3:.1f}; without a fault {statistics.median(other.times) * 1e3:.1f}, {max(other.times) * 1e3:.1f} ms")
-    assert len(its.times) > 20 and max(its.times) < MOST + max(other.times)
+    assert max(its.times) < MOST + max(other.times)
