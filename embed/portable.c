@@ -152,3 +152,78 @@ _Bool gs1_c_next(const uint8_t *line, size_t length, struct gs1_c_place *found) 
 READ_TEXT(read_message) READ_TEXT(read_elements) READ_TEXT(read_gtin) READ_TEXT(read_data)
 ANSWER(read_row, (const uint16_t *widths, size_t count, uint16_t year, struct gs1_answer *answer), widths, (u64)count * 2, at, count, year)
 ANSWER(read_dots, (const uint8_t *bits, size_t bytes, uint32_t count, uint16_t year, struct gs1_answer *answer), bits, bytes, at, bytes, count, year)
+
+/* What the calls that draw labels are given, as the module has it: its pointers and sizes have 64 bits. */
+struct items {
+    u64 at, count;
+};
+struct font {
+    struct items widths;
+    uint16_t other, ascent, descent, digits;
+};
+
+static struct items letters_of(struct gs1_letters text) {
+    return (struct items){given(text.codes, (u64)text.count * 4), text.count};
+}
+
+static u64 article_of(const struct gs1_article *its) {
+    const struct {
+        struct items texts[9];
+        uint32_t kind, bearers;
+    } article = {{{given(its->text.at, its->text.count), its->text.count}, letters_of(its->name), letters_of(its->price),
+                  letters_of(its->old_price), letters_of(its->unit_price), letters_of(its->deposit), letters_of(its->best_before),
+                  letters_of(its->batch), letters_of(its->lines)}, its->kind, its->bearers};
+    return given(&article, sizeof article);
+}
+
+static struct font font_of(struct gs1_font its) {
+    return (struct font){{given(its.widths, (u64)its.count * 2), its.count}, its.other, its.ascent, its.descent, its.digits};
+}
+
+static u64 look_of(const struct gs1_look *its) {
+    const struct {
+        double aside, above, dots, module_mm, bars_mm;
+        uint16_t width, height;
+        uint32_t price_first;
+        struct font regular, bold;
+    } look = {its->aside, its->above, its->dots, its->module_mm, its->bars_mm, its->width, its->height, its->price_first,
+              font_of(its->regular), font_of(its->bold)};
+    return given(&look, sizeof look);
+}
+
+uint32_t gs1_c_measure(const struct gs1_look *look, const struct gs1_article *article, uint16_t year, struct gs1_measure *measure) {
+    begin();
+    const u64 label = look_of(look), some = article_of(article), to = given(measure, sizeof *measure);
+    if (is_full) {
+        return GS1_FAULT_NO_MEMORY;
+    }
+    const uint32_t fault = Z_gs1Z_gs1_c_measure(&module, label, some, year, to);
+    memcpy(measure, memory->data + to, sizeof *measure);
+    return fault;
+}
+
+uint32_t gs1_c_plan(const struct gs1_look *look, const struct gs1_measure *measures, size_t count, struct gs1_plan *plan) {
+    begin();
+    const u64 label = look_of(look), at = given(measures, (u64)count * sizeof *measures), to = given(plan, sizeof *plan);
+    if (is_full) {
+        return GS1_FAULT_NO_MEMORY;
+    }
+    const uint32_t fault = Z_gs1Z_gs1_c_plan(&module, label, at, count, to);
+    memcpy(plan, memory->data + to, sizeof *plan);
+    return fault;
+}
+
+uint32_t gs1_c_draw(const struct gs1_look *look, const struct gs1_plan *plan, const struct gs1_article *article, uint16_t year, uint8_t *row,
+                    size_t row_bytes, struct gs1_part *parts, size_t room, struct gs1_drawing *drawing) {
+    begin();
+    const u64 label = look_of(look), shared = given(plan, sizeof *plan), some = article_of(article), scratch = given(row, row_bytes),
+              at = given(parts, (u64)room * sizeof *parts), to = given(drawing, sizeof *drawing);
+    if (is_full) {
+        return GS1_FAULT_NO_MEMORY;
+    }
+    const uint32_t fault = Z_gs1Z_gs1_c_draw(&module, label, shared, some, year, scratch, row_bytes, at, room, to);
+    memcpy(row, memory->data + scratch, row_bytes);
+    memcpy(parts, memory->data + at, room * sizeof *parts);
+    memcpy(drawing, memory->data + to, sizeof *drawing);
+    return fault;
+}

@@ -50,13 +50,52 @@ static size_t text(char *made) {
     return length;
 }
 
+static enum gs1_kind kind_of(size_t length) {
+    return length == 8 ? GS1_EAN8 : length == 12 ? GS1_UPCA : length == 13 ? GS1_EAN13 : GS1_ITF14;
+}
+
+/* A label of a number with texts, perhaps without room for them. */
+static void label(void) {
+    static struct gs1_part parts[GS1_PARTS];
+    static uint8_t scratch[GS1_ROW];
+    char made[16];
+    uint16_t widths[128];
+    uint32_t codes[3][24];
+    const size_t length = number(made), room = chance(9) ? GS1_PARTS : chance(20);
+    for (int i = 0; i < 128; i++) {
+        widths[i] = (uint16_t)(chance(9) ? 4000 + chance(9000) : 0);
+    }
+    for (int i = 0; i < 3 * 24; i++) {
+        codes[i / 24][i % 24] = 32 + chance(90);
+    }
+    const struct gs1_font font = {widths, 128, 8192, 15893, 3769, 12124};
+    const struct gs1_look look = {.aside = chance(30), .above = chance(30), .dots = 8, .width = (uint16_t)(200 + chance(600)),
+                                  .height = (uint16_t)(100 + chance(400)), .price_first = chance(2), .regular = font, .bold = font};
+    const struct gs1_article article = {.text = {(const uint8_t *)made, length}, .kind = kind_of(length), .name = {codes[0], chance(24)},
+                                        .price = {codes[1], chance(7)}, .lines = {codes[2], chance(24)}};
+    struct gs1_measure measure = {0};
+    struct gs1_plan plan = {0};
+    struct gs1_drawing drawing = {0};
+    memset(parts, 0, sizeof parts);
+    int fault = gs1_measure(&look, &article, 2026, &measure);
+    add(&fault, sizeof fault);
+    fault = gs1_plan(&look, &measure, 1, &plan);
+    add(&fault, sizeof fault);
+    fault = gs1_draw(&look, &plan, &article, 2026, scratch, sizeof scratch, parts, room, &drawing);
+    add(&fault, sizeof fault);
+    add(&measure, sizeof measure);
+    add(&plan, sizeof plan);
+    add(parts, sizeof parts);
+    add(&drawing, sizeof drawing);
+    accepted += fault == 0;
+}
+
 /* The widths of a symbol that the library draws, in pixels, perhaps with a fault. */
 static size_t row(uint16_t *widths) {
     char made[16];
     uint8_t out[GS1_SYMBOL] = {0};
     size_t length = number(made), count = 0;
-    const enum gs1_kind kind = length == 8 ? GS1_EAN8 : length == 12 ? GS1_UPCA : length == 13 ? GS1_EAN13 : GS1_ITF14;
-    const size_t wrote = gs1_symbol(kind, (const uint8_t *)made, length, 2026, out, sizeof out);
+    const size_t wrote = gs1_symbol(kind_of(length), (const uint8_t *)made, length, 2026, out, sizeof out);
     const uint16_t pixels = (uint16_t)(1 + chance(4));
     char *at = (char *)out;
     answered(out, wrote, sizeof out);
@@ -102,6 +141,9 @@ int main(int argc, char **argv) {
             gs1_read_message(bytes, length, year, &answer);
         }
         add(&answer, sizeof answer);
+        if (i % 64 == 0) {
+            label();
+        }
     }
     printf("%ld questions, %ld accepted, sum %08lx%08lx\n", questions, accepted, (unsigned long)(sum >> 32), (unsigned long)(sum & 0xffffffff));
     return 0;
