@@ -172,6 +172,31 @@ struct Reach {
     bottom: i64,
 }
 
+impl Reach {
+    /// From one place to another, and half a dot beyond both.
+    fn of(one: i64, other: i64) -> Reach {
+        Reach {
+            top: one.min(other).saturating_sub(ONE / 2),
+            bottom: one.max(other).saturating_add(ONE / 2),
+        }
+    }
+
+    /// With another one.
+    fn with(self, other: Reach) -> Reach {
+        Reach {
+            top: self.top.min(other.top),
+            bottom: self.bottom.max(other.bottom),
+        }
+    }
+
+    /// The place that is so many steps below the top.
+    fn v_at(self, steps: u8) -> i64 {
+        let height = self.bottom.saturating_sub(self.top);
+        let way = over(height.saturating_mul(i64::from(steps)), i64::from(STEPS));
+        self.top.saturating_add(way)
+    }
+}
+
 /// As far as it is half a row to the next one.
 fn reach_of_rows(seen: &Seen, grid: &Grid) -> Reach {
     Reach {
@@ -195,7 +220,8 @@ fn spots_of(seen: &Seen, grid: &Grid, reach: Reach) -> [Spot; 4] {
 /// How many steps are made through what was seen, whose lines are asked whether they show it.
 const STEPS: u8 = 31;
 
-/// Two groups of lines that show what was seen, from one of their ends: the first such in a reach and the next one that is beside it.
+/// Two groups of lines that show what was seen, from one of their ends, and where they are: the first such in a reach and the next one
+/// that is beside it.
 fn lines_from(
     reader: &Reader,
     grid: &Grid,
@@ -204,50 +230,42 @@ fn lines_from(
     room: &mut RowRoom,
     reach: Reach,
     is_turned: bool,
-) -> Option<SeenLines> {
+) -> Option<(SeenLines, Reach)> {
     let said = seen.said.as_ref()?;
-    let mut found: Option<SeenLine> = None;
+    let mut found: Option<(SeenLine, i64)> = None;
     for step in 0..STEPS + 1 {
-        let line = line_in(reader, grid, look, reach, step, is_turned);
+        let v = reach.v_at(if is_turned {
+            STEPS.saturating_sub(step)
+        } else {
+            step
+        });
+        let line = line_in(reader, grid, look, v, is_turned);
         let is_beside = match found {
-            Some(first) => first.is_before(&line),
+            Some((first, _)) => first.is_before(&line),
             None => true,
         };
         if !is_beside || line_shows(reader.picture, reader.year, said, &line, room).is_none() {
             continue;
         }
         match found {
-            Some(first) => {
-                return Some(SeenLines {
+            Some((first, place)) => {
+                let lines = SeenLines {
                     first,
                     x: line.x,
                     y: line.y,
                     dots: line.dots,
-                });
+                };
+                return Some((lines, Reach::of(place, v)));
             }
-            None => found = Some(line),
+            None => found = Some((line, v)),
         }
     }
     None
 }
 
-/// The lines so many steps from the top of a reach, or if they are turned round from its bottom.
-fn line_in(
-    reader: &Reader,
-    grid: &Grid,
-    look: &Look,
-    reach: Reach,
-    step: u8,
-    is_turned: bool,
-) -> SeenLine {
-    let steps = if is_turned {
-        STEPS.saturating_sub(step)
-    } else {
-        step
-    };
-    let height = reach.bottom.saturating_sub(reach.top);
-    let way = over(height.saturating_mul(i64::from(steps)), i64::from(STEPS));
-    let (_, line) = grid.lines_of(reader.picture, reach.top.saturating_add(way), look);
+/// The lines of a place across rows, or if they are turned round from their other ends.
+fn line_in(reader: &Reader, grid: &Grid, look: &Look, v: i64, is_turned: bool) -> SeenLine {
+    let (_, line) = grid.lines_of(reader.picture, v, look);
     if is_turned { line.turned_round() } else { line }
 }
 
@@ -259,7 +277,7 @@ fn lines_in(
     look: &Look,
     room: &mut RowRoom,
     reach: Reach,
-) -> Option<SeenLines> {
+) -> Option<(SeenLines, Reach)> {
     let lines = lines_from(reader, grid, seen, look, room, reach, false);
     if lines.is_some() {
         return lines;
@@ -274,7 +292,7 @@ fn lines_of(
     seen: &Seen,
     look: &Look,
     room: &mut RowRoom,
-) -> Option<SeenLines> {
+) -> Option<(SeenLines, Reach)> {
     let top = seen.first.v;
     let bottom = seen.last.v;
     let lines = lines_in(reader, grid, seen, look, room, Reach { top, bottom });
@@ -407,10 +425,10 @@ fn read_grid(
     let sure = tally.sure(grid.step);
     for (seen, is_sure) in tally.all_mut().iter_mut().zip(sure.iter()) {
         if *is_sure {
-            let Some(lines) = lines_of(reader, grid, seen, look, room) else {
+            let Some((lines, reach)) = lines_of(reader, grid, seen, look, room) else {
                 continue;
             };
-            let reach = reach_of(reader, grid, seen, look, room);
+            let reach = reach.with(reach_of(reader, grid, seen, look, room));
             if let Some(symbol) = placed(seen, grid, stripes, lines, reach, size) {
                 shown.join(symbol, size);
             }
