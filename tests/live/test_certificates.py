@@ -85,12 +85,12 @@ def test_a_renewal_that_is_not_whole(renewed, authority, tmp_path, how):
     key, file = pair(authority, tmp_path / "second", "second")
     renewed.put(*broken(tmp_path, key, file, how))
     renewed.reload()
+    renewed.gateway.waits_for(config_last_reload_successful=0)
     assert [renewed.name() for _ in range(5)] == ["first"] * 5
-    assert renewed.gateway.numbers()["noriladle_config_last_reload_successful"] == "0"
     renewed.put(key, file)
     renewed.reload()
+    renewed.gateway.waits_for(config_last_reload_successful=1)
     assert [renewed.name() for _ in range(5)] == ["second"] * 5
-    assert renewed.gateway.numbers()["noriladle_config_last_reload_successful"] == "1"
     said = renewed.ends()
     assert said.count("\n") == 1 and f"{renewed.file}, {renewed.key}: " in said and "the gateway keeps the certificate that it has" in said
 
@@ -98,6 +98,7 @@ def test_a_renewal_that_is_not_whole(renewed, authority, tmp_path, how):
 def test_a_renewal_that_has_expired(renewed, authority, tmp_path):
     renewed.put(*pair(authority, tmp_path / "second", "second", "-1"))
     renewed.reload()
+    renewed.gateway.waits_for(config_last_reload_successful=0)
     assert renewed.name() == "first"
     assert f"{renewed.file}: the certificate expired on " in renewed.ends()
 
@@ -106,7 +107,9 @@ def test_a_renewal_that_ends_earlier(renewed, authority, tmp_path):
     """It is taken, and the number of its end with it."""
     renewed.put(*pair(authority, tmp_path / "second", "second", "20"))
     renewed.reload()
-    assert renewed.name() == "second"
+    until = time.monotonic() + 20
+    while renewed.name() != "second":
+        assert time.monotonic() < until
     end = float(renewed.gateway.numbers()["noriladle_certificate_end_timestamp_seconds"])
     assert abs(end - time.time() - 20 * 86_400) < 100
 
