@@ -21,4 +21,4 @@ for language, source, command, wanted in blocks:
         other += 1
         print(f"{command}: status {ran.returncode}\n{ran.stdout}{ran.stderr}", file=sys.stderr)
 print(f"callers: {len(blocks)}, {other} differ")
-sys.exit(other != 0 or len(blocks) != 6)
+sys.exit(other != 0 or len(blocks) != 8)
