@@ -10,7 +10,7 @@ const SIZES = {
 };
 
 // The errors of labels by their numbers in gs1.h, and what is said of them in shop/.
-const SAID_OF_LABELS = { 53: "noBars", 54: "noPlace", 55: "noHeight", 56: "manyLines" };
+const SAID_OF_LABELS = { 53: "noBars", 54: "noPlace", 55: "noHeight", 56: "manyFurther" };
 
 // An empty label, and how much stays white at its sides, above and below. Lengths are dots.
 function cellOf(stock, dots) {

@@ -4,7 +4,7 @@
 const fs = require("fs"), path = require("path"), vm = require("vm");
 const page = path.join(__dirname, "../../page");
 
-for (const name of "gs1.module gs1 ais values shop core symbol".split(" ")) vm.runInThisContext(fs.readFileSync(path.join(page, `${name}.js`), "utf8"), name);
+for (const name of "gs1.module gs1 ais values shop core".split(" ")) vm.runInThisContext(fs.readFileSync(path.join(page, `${name}.js`), "utf8"), name);
 
 const inPage = vm.runInThisContext(`({
   async load() { gs1 = await Gs1.load(GS1_WASM_32, 32); core.year = 2026; },
@@ -15,8 +15,7 @@ const inPage = vm.runInThisContext(`({
     const pairs = elements?.map(({ ai, value }) => ai + "=" + value).join("\t");
     if (line[0] === "-") return "data " + pairs;
     if (line[0] === "=") return ["scan", identifier || "-", Gs1.symbols.indexOf(symbol), gtinOf(elements) ?? "-", pairs].join(" ");
-    const { refused, digits, widths } = symbolOf({ kind: Gs1.kinds[line[0]], text, answer: { elements: [] } });
-    return refused ?? ["symbol", digits, widths[0], widths.at(-1), widths.slice(1, -1).join("")].join(" ");
+    return core.symbol(Gs1.kinds[line[0]], text);
   },
 })`);
 

@@ -24,7 +24,7 @@ class Label:
     def __init__(self, group):
         lines = {}
         for text in group.iter(f"{SVG}text"):
-            lines.setdefault(text.get("y"), []).append("".join(text.itertext()))
+            lines.setdefault(round(float(text.get("y"))), []).append("".join(text.itertext()))
         rows = [
             "".join(parts) if all(re.fullmatch(r"[\d ]+", part) for part in parts) else " ".join(parts)
             for parts in lines.values()

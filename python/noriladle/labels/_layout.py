@@ -20,7 +20,7 @@ _UP, _DOWN, _OVERSHOOT = 0.9, 0.22, 0.02
 _MOST_PARTS, _ROW = 400, 8192
 _BAR, _LETTERS, _LINES, _CUT, _BOLD = 0, 2, 7, 1, 2
 _NO_SYMBOL, _TOO_WIDE, _NO_MODULE = 26, 27, 52
-_SAID = {53: "noBars", 54: "noPlace", 55: "noHeight", 56: "manyLines"}
+_SAID = {53: "noBars", 54: "noPlace", 55: "noHeight", 56: "manyFurther"}
 """The errors of labels by their numbers in gs1.h, and what is said of them in shop/."""
 _PART, _INK, _DRAWN = struct.Struct("<7H2B4L"), 14, struct.Struct("<2L6H")
 """``struct gs1_part``, where its ink stands, and ``struct gs1_drawing``."""
