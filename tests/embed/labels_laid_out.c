@@ -156,6 +156,36 @@ static void draw_high_prices(void) {
         }
 }
 
+/* What the labels of a list have in common, and what a look asks for. */
+static void plan_list(void) {
+    struct gs1_look look = look_of(8, 105, 60, 0);
+    look.bold.other = 16384;
+    struct gs1_article narrow = {.text = bytes("96385074"), .kind = GS1_EAN8, .price = letters(0, "12.90")};
+    struct gs1_article wide = {.text = bytes("9501101530003"), .kind = GS1_EAN13, .price = letters(1, "2.90"), .batch = letters(2, "L42")};
+    struct gs1_measure measures[2];
+    struct gs1_plan plan;
+    check(!gs1_measure(&look, &narrow, YEAR, measures) && !gs1_measure(&look, &wide, YEAR, measures + 1), "two measures");
+    check(measures[0].wide == 3 * 81 && measures[1].wide == 3 * 113, "symbols of 3 dots a module, with their quiet zones");
+    check(measures[0].price == 5 * 16384 && measures[1].price == 4 * 16384, "prices as wide as their letters in bold");
+    check(!gs1_plan(&look, measures, 2, &plan) && plan.articles.column == 3 * 113, "a column for the widest symbol");
+    for (look.price_first = 0; look.price_first < 2; look.price_first++) {
+        look.above = 40, look.module_mm = 0.62, look.bars_mm = 9;
+        check(!draw(&look, &wide) && drawing.module == 5 && drawing.end - drawing.top >= 71 && drawing.end - drawing.top <= 72, "a module and bars that were asked for");
+        unsigned batch = 0, lowest = 0;
+        for (const struct gs1_part *p = parts; p < parts + drawing.count; p++) {
+            batch += p->ink == GS1_LETTERS && p->field == GS1_FIELD_BATCH ? p->count : 0;
+            lowest = p->top + p->height > (int)lowest ? p->top + p->height : lowest;
+        }
+        check(batch == 3, "the batch is shown");
+        check(lowest <= 480 - 40, "what was asked for stays white");
+    }
+    look = look_of(8, 105, 60, 0);
+    look.width = 375;
+    check(draw(&look, &narrow) == 0 && draw(&look, &wide) == GS1_FAULT_LABEL_WIDTH, "white at both sides");
+    look.width = 376;
+    check(draw(&look, &wide) == 0, "just enough white at both sides");
+}
+
 static double seconds(void) {
     struct timespec t;
     clock_gettime(CLOCK_MONOTONIC, &t);
@@ -255,6 +285,7 @@ int main(int argc, char **argv) {
     }
     draw_all();
     draw_high_prices();
+    plan_list();
     refuse();
     printf("%ld checks of laid out labels, %ld wrong\n", checks, wrong);
     return wrong != 0;
