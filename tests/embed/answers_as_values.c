@@ -106,6 +106,8 @@ static void compare_format(const struct gs1_answer *answer, const char *word, co
     same_number("elements read back", (unsigned long)memcmp(again.element, answer->element, answer->count * sizeof *answer->element), 0);
     same_number("text read back", (unsigned long)memcmp(again.text, answer->text, answer->length), 0);
     if (!answer->fault) same_number("identifier read back", (unsigned long)memcmp(again.identifier, answer->identifier, 4), 0);
+    /* A line does not tell a UPC-E from a UPC-A. */
+    if (!answer->fault && answer->symbol != GS1_SYMBOL_UPCE) same_number("symbol read back", again.symbol, answer->symbol);
     if (length > 9) text[length / 2] = (uint8_t)(text[length / 2] ^ 1);
     if (!gs1_read_data(text, length, year, &again) || again.fault != GS1_FAULT_KIND) {
         uint8_t other[GS1_LINE];
