@@ -23,12 +23,14 @@ fn product(one: i32, other: i32) -> i32
     one * other
 }
 
+/// Whether the angle between the doubled directions of two blocks has at least this cosine, times 1,048,576.
 fn go_so_near(one: Block, other: Block, least: i64) -> bool {
     let cos = product(i32::from(one.cos), i32::from(other.cos));
     let sin = product(i32::from(one.sin), i32::from(other.sin));
     i64::from(cos) + i64::from(sin) >= least
 }
 
+/// Whether two blocks go one way, so that they may be of one symbol.
 fn go_one_way(one: Block, other: Block) -> bool {
     go_so_near(one, other, ALIKE)
 }

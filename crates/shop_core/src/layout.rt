@@ -17,6 +17,9 @@ use std::num::{nearest_usize_to_f64, saturating_f64_to_u16};
 
 pub(crate) const LEAST_PRICE_MM: f64 = 2.6;
 
+/// The part of its room that a price takes: quotients are rounded, and a price that is higher than its room is refused.
+const NEARLY_ALL: f64 = 0.999_999;
+
 /// A label that is laid out.
 #[derive(Drop)]
 pub(crate) struct Sheet<'a> {
@@ -194,9 +197,9 @@ impl<'a> Sheet<'a> {
         self.bold(Field::Name).fitted(width, sizes)
     }
 
-    /// The size of a price whose line is as high as there is room. A little less, since quotients are rounded.
+    /// The size of a price whose line is as high as there is room, or a little less.
     pub(crate) fn size_in(&self, room: f64) -> f64 {
-        0.999_999 * room / self.plan.fonts.bold.pitch()
+        NEARLY_ALL * room / self.plan.fonts.bold.pitch()
     }
 
     pub(crate) fn price(&self, width: f64, largest: f64, smallest_mm: f64) -> Block<'a> {
