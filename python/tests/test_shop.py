@@ -8,12 +8,14 @@ import signal
 import struct
 import subprocess
 import sys
+import threading
+import time
 import zlib
 
 import pytest
 
 from noriladle.__main__ import main
-from noriladle import commands
+from noriladle import Symbols, commands
 from noriladle.commands import write_files
 
 LIST = "ean;name;price\n4012345010008;Haferkekse;2,90\n96385074;Kaugummi;0,90\n"
@@ -369,6 +371,43 @@ def test_reads_each_format(name, picture, capsys):
 def test_reads_the_pages_of_a_tiff(picture, capsys):
     picture.save("a.tif", save_all=True, append_images=[picture.rotate(180), picture])
     assert [line.rsplit("\t", 1)[0] for line in told(["read", "a.tif"], capsys)[1]] == [f"a.tif:{page}\t{LINE}" for page in (1, 2, 3)]
+
+
+def test_after_a_damaged_page_no_other_is_told(picture, capsys):
+    picture.save("a.tif", save_all=True, append_images=[picture] * 4, compression="tiff_deflate")
+    with pytest.importorskip("PIL.Image").open("a.tif") as image:
+        image.seek(2)
+        place, count = image.tag_v2[273][0], image.tag_v2[279][0]
+    data = bytearray(open("a.tif", "rb").read())
+    data[place:place + count] = bytes(count)
+    save("a.tif", bytes(data))
+    status, out, err = told(["read", "a.tif"], capsys)
+    assert [line.rsplit("\t", 1)[0] for line in out] == [f"a.tif:{page}\t{LINE}" for page in (1, 2)]
+    assert (status, err) == (2, ["a.tif: the picture is damaged, or cut"])
+
+
+@pytest.mark.parametrize("processors, room, at_once", [(1, 100, 1), (3, 100, 3), (8, 2.5, 2), (8, 1.5, 1)])
+def test_reads_pages_side_by_side_in_the_room_of_one_picture(processors, room, at_once, picture, capsys, monkeypatch):
+    picture.save("a.pdf", resolution=72, save_all=True, append_images=[picture] * 9)
+    pixels = picture.width * picture.height * (300 / 72) ** 2
+    running, most, turn = [], [], threading.Condition()
+
+    def read(image, year, ais):
+        with turn:
+            running.append(image)
+            most.append(len(running))
+            turn.notify_all()
+            turn.wait_for(lambda: max(most) >= at_once, 5)
+        time.sleep(0.01)
+        with turn:
+            running.remove(image)
+        return Symbols()
+
+    monkeypatch.setattr("noriladle.picture.read", read)
+    monkeypatch.setattr("noriladle.picture.MOST_PIXELS", room * pixels)
+    monkeypatch.setattr("os.cpu_count", lambda: processors)
+    assert [line.split(": ")[0] for line in told(["read", "a.pdf"], capsys)[2]] == [f"a.pdf:{page}" for page in range(1, 11)]
+    assert max(most) == at_once
 
 
 def test_reads_a_pdf_file(picture, capsys):

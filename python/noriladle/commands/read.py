@@ -10,15 +10,20 @@ barcode that can be read, and 2 if it cannot be opened.
 from __future__ import annotations
 
 import argparse
+import contextlib
 import io
 import json
+import os
 import re
 import shutil
 import sys
 import warnings
-from typing import TYPE_CHECKING, Any, Iterator, List, NamedTuple, Optional, Tuple
+from collections import deque
+from concurrent.futures import Future, ThreadPoolExecutor
+from functools import partial
+from typing import TYPE_CHECKING, Any, Callable, Deque, Iterator, List, NamedTuple, Optional, Tuple, Union
 
-from .. import Refusal, Symbol
+from .. import Refusal, Symbol, Symbols
 from .._needs import NUMPY, PDFTOPPM, PILLOW, sentence
 from .._shop import count_text, told
 from . import REFUSED, RIGHT, WRONG_WORDS, Progress, WrongWords, add_ais, add_year, data_of, tell
@@ -51,7 +56,9 @@ class Page(NamedTuple):
 
     name: str
     number: Optional[int]
-    image: "Image.Image"
+    pixels: float
+    image: Callable[[], "Image.Image"]
+    """Loads its image, or draws it."""
 
     def __str__(self) -> str:
         return self.name if self.number is None else f"{self.name}:{self.number}"
@@ -68,15 +75,18 @@ def run(words: argparse.Namespace) -> int:
         raise WrongWords(sentence("reading", [it for it in needed if not it.is_there()]))
     from .. import picture
 
+    def read(page: Page) -> Symbols:
+        return picture.read(page.image(), words.year, ais=words.ais)
+
     # Pillow warns about damage that does not keep it from reading.
     warnings.simplefilter("ignore")
     status, progress, is_later = RIGHT, Progress(), False
     for count, name in enumerate(words.pictures, 1):
         try:
-            for page in _pages_of(name):
+            for page, found in _side_by_side(_pages_of(name), read, picture.MOST_PIXELS):
                 progress(told("reading", page, count, len(words.pictures)), at_once=is_later)
                 is_later = True
-                shown = picture.read(page.image, words.year, ais=words.ais)
+                shown = found.result()
                 progress.end()
                 for symbol in shown:
                     print(_line(page, symbol, words.json), flush=sys.stdout.isatty())
@@ -94,6 +104,30 @@ def run(words: argparse.Namespace) -> int:
             tell(f"{name}: {error}")
             status = WRONG_WORDS
     return status
+
+
+def _side_by_side(pages: Iterator[Page], read: Callable[[Page], Symbols], most: int) -> Iterator[Tuple[Page, "Future[Symbols]"]]:
+    """The pages of a file in their order, with what they show. As many are read at once as there are processors; together they have
+    at most this many pixels, as the largest picture has."""
+    processors = os.cpu_count() or 1
+    under_way: Deque[Tuple[Page, "Future[Symbols]"]] = deque()
+    reason: Union[Refusal, Unopened, None] = None
+    with ThreadPoolExecutor(processors) as pool:
+        try:
+            try:
+                for page in pages:
+                    while under_way and (len(under_way) == processors or page.pixels + sum(it.pixels for it, _ in under_way) > most):
+                        yield under_way.popleft()
+                    under_way.append((page, pool.submit(read, page)))
+            except (Refusal, Unopened) as error:
+                reason = error
+            while under_way:
+                yield under_way.popleft()
+        finally:
+            for _, found in under_way:
+                found.cancel()
+    if reason:
+        raise reason
 
 
 def _why(reason: Optional[Refusal]) -> str:
@@ -138,17 +172,13 @@ def _pages_of(name: str) -> Iterator[Page]:
         yield from _pictures(name, data)
 
 
-def _pictures(name: str, data: bytes) -> Iterator[Page]:
-    """The picture of a file, or the pages of a TIFF."""
-    from ..picture import DAMAGES, opened
+@contextlib.contextmanager
+def _damage() -> Iterator[None]:
+    """Names damage of a picture."""
+    from ..picture import DAMAGES
 
     try:
-        with opened(io.BytesIO(data)) as image:
-            pages = getattr(image, "n_frames", 1) if image.format == "TIFF" else 1
-            for number in range(pages):
-                with opened(io.BytesIO(data), number) as frame:
-                    frame.load()
-                    yield Page(name, number + 1 if pages > 1 else None, frame)
+        yield
     except Refusal:
         raise
     except DAMAGES as error:
@@ -156,21 +186,46 @@ def _pictures(name: str, data: bytes) -> Iterator[Page]:
         raise Unopened(told("damagedPicture" if is_known else "noPicture")) from error
 
 
+def _pictures(name: str, data: bytes) -> Iterator[Page]:
+    """The picture of a file, or the pages of a TIFF."""
+    from ..picture import opened
+
+    with _damage():
+        with opened(io.BytesIO(data)) as image:
+            pages = getattr(image, "n_frames", 1) if image.format == "TIFF" else 1
+        for number in range(pages):
+            frame = opened(io.BytesIO(data), number)
+            yield Page(name, number + 1 if pages > 1 else None, frame.width * frame.height, partial(_loaded, frame))
+
+
+def _loaded(frame: "Image.Image") -> "Image.Image":
+    with _damage():
+        frame.load()
+    return frame
+
+
 def _pdf_pages(name: str, data: bytes) -> Iterator[Page]:
     """The pages of a PDF file, as pdftoppm draws them."""
-    from ..picture import DAMAGES, MOST_PIXELS, opened
+    from ..picture import MOST_PIXELS
 
     if not (shutil.which("pdftoppm") and shutil.which("pdfinfo")):
         raise Unopened(told("noPoppler"))
     for number, (width, height) in enumerate(_sizes(data), 1):
-        if width * height * (DPI / 72) ** 2 > MOST_PIXELS:
+        pixels = width * height * (DPI / 72) ** 2
+        if pixels > MOST_PIXELS:
             raise Refusal(44, "InputSize")
-        drawn = _run(["pdftoppm", "-r", str(DPI), "-gray", "-f", str(number), "-l", str(number), "-"], data, number)
-        try:
-            with opened(io.BytesIO(drawn)) as image:
-                yield Page(name, number, image)
-        except DAMAGES as error:
-            raise Unopened(told("noPage", number)) from error
+        yield Page(name, number, pixels, partial(_drawn, data, number))
+
+
+def _drawn(data: bytes, number: int) -> "Image.Image":
+    """A page of a PDF file, as pdftoppm draws it."""
+    from ..picture import DAMAGES, opened
+
+    drawn = _run(["pdftoppm", "-r", str(DPI), "-gray", "-f", str(number), "-l", str(number), "-"], data, number)
+    try:
+        return opened(io.BytesIO(drawn))
+    except DAMAGES as error:
+        raise Unopened(told("noPage", number)) from error
 
 
 def _sizes(data: bytes) -> List[Tuple[float, float]]:
