@@ -89,10 +89,10 @@ too_many e = omega arith
 less_not : (a b : ℕ) → a < b → b ≤ a → ⊥
 less_not a b low high = omega arith
 
-pub gap_near : (a b W : ℕ) → 3 * b ≤ 3 * a + W → 3 * a ≤ 3 * b + W → 3 * gap a b ≤ W
+gap_near : (a b W : ℕ) → 3 * b ≤ 3 * a + W → 3 * a ≤ 3 * b + W → 3 * gap a b ≤ W
 gap_near a b W low high = omega arith
 
-pub near_gap : (a b W : ℕ) → 3 * gap a b ≤ W → (3 * b ≤ 3 * a + W) × (3 * a ≤ 3 * b + W)
+near_gap : (a b W : ℕ) → 3 * gap a b ≤ W → (3 * b ≤ 3 * a + W) × (3 * a ≤ 3 * b + W)
 near_gap a b W near = (omega arith, omega arith)
 
 -- a width that comes up to as many limits above one module as it is past, and to that of one, is this many modules

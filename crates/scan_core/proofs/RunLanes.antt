@@ -1,6 +1,6 @@
 -- Sixteen runs at a time, each of them by its limits.
-use Rattle.std.proofs.Common.{◌≡◌, ◌==◌, ◌&&◌, ◌+◌, ◌-◌, ◌*◌, ◌/◌, ◌%◌, ◌<◌, ◌≤◌, ◌++◌, ◌∷◌, ◌∙◌, Bool, List, [], ap, ap₂, arith, cond, drop, false, get_or, inl, inr, leb, length, length-append, map, nat_le, not, refl, replicate, suc, sym, take, take-add, true, w8, w16, zero, ℕ}
-use mir.Syntax.{cast, mask, le, unsigned}
+use Rattle.std.proofs.Common.{◌≡◌, ◌==◌, ◌&&◌, ◌+◌, ◌-◌, ◌*◌, ◌%◌, ◌<◌, ◌≤◌, ◌++◌, ◌∷◌, ◌∙◌, Bool, List, [], ap, ap₂, arith, cond, drop, false, inl, inr, leb, length, length-append, map, nat_le, not, refl, replicate, suc, sym, take, take-add, true, w8, w16, zero, ℕ}
+use mir.Syntax.{cast, eq, mask, le, unsigned}
 use borrow.Rule.Simd.Lanes.{Asks1, act2}
 use borrow.Table.Row.{s_int}
 use lib.Lanes.{zip2, sel_l, top, mask_l, Each1}
@@ -8,9 +8,8 @@ use Rattle.std.specs.List.{list_all}
 use Rattle.std.proofs.lemmas.Bool.{and_parts, cases_eq, cases_lt, eq-eqb, le-leb, leb-true, lt-leb, ne_eqb}
 use Rattle.std.proofs.lemmas.List.{append_assoc, drop_all, length-drop, length-map, length-take-le, map-append, take-append-drop, take-map, take-take, take_all, take_at}
 use Rattle.std.proofs.lemmas.List.Folds.{list_all-append}
-use Rattle.std.proofs.lemmas.Simd.{SwzOk, SwzOk-from_below, swz_l}
 use Rattle.scan_core.specs.declared.rounding.Limits.{Limits}
-use Rattle.scan_core.specs.inner.RunLanes.{AreSmall, above_one, are_near, limit_at, modules_or_none, reaches}
+use Rattle.scan_core.specs.inner.RunLanes.{AreSmall, above_one, are_near, modules_or_none, reaches}
 
 pub map_same : (f g : ℕ → ℕ) → ((x : ℕ) → f x ≡ g x) → (xs : List ℕ) → map f xs ≡ map g xs
 map_same f g e [] = refl
@@ -34,60 +33,59 @@ counted false true false = refl
 counted false false true = refl
 counted false false false = refl
 
-few : (p q r : Bool) → cond p 1 0 + cond q 1 0 + cond r 1 0 < 4
-few true true true = omega arith
-few true true false = omega arith
-few true false true = omega arith
-few true false false = omega arith
-few false true true = omega arith
-few false true false = omega arith
-few false false true = omega arith
-few false false false = omega arith
+pub four_counted : (o p q r : Bool) → (((cond o 1 0 + cond p 1 0) % 256 + cond q 1 0) % 256 + cond r 1 0) % 256 ≡ cond o 1 0 + cond p 1 0 + cond q 1 0 + cond r 1 0
+four_counted true true true true = refl
+four_counted true true true false = refl
+four_counted true true false true = refl
+four_counted true true false false = refl
+four_counted true false true true = refl
+four_counted true false true false = refl
+four_counted true false false true = refl
+four_counted true false false false = refl
+four_counted false true true true = refl
+four_counted false true true false = refl
+four_counted false true false true = refl
+four_counted false true false false = refl
+four_counted false false true true = refl
+four_counted false false true false = refl
+four_counted false false false true = refl
+four_counted false false false false = refl
 
-pub few_above : (l : Limits) (w : ℕ) → above_one l w < 4
+few : (p q r : Bool) → (cond p 1 0 + cond q 1 0 + cond r 1 0 + 1) % 256 ≡ cond p 1 0 + cond q 1 0 + cond r 1 0 + 1
+few true true true = refl
+few true true false = refl
+few true false true = refl
+few true false false = refl
+few false true true = refl
+few false true false = refl
+few false false true = refl
+few false false false = refl
+
+pub few_above : (l : Limits) (w : ℕ) → (above_one l w + 1) % 256 ≡ above_one l w + 1
 few_above l w = few (nat_le l.two w) (nat_le l.three w) (nat_le l.four w)
 
--- each names a lane
-each_small : (l : Limits) (ws : List ℕ) → Each1 (λ j. j < 16) (map (above_one l) ws)
-each_small l [] = tt
-each_small l (w ∷ ws) = (omega (arith, few_above l w), each_small l ws)
+-- what the code computes of the limits that each width comes up to and is past
+abbrev pub computed : List ℕ → List ℕ → List ℕ → List ℕ → List ℕ → List ℕ → List ℕ
+computed least above past none found ws =
+    sel_l (map (top 7) (zip2 (act2 (mask (le unsigned)) (s_int w8) (s_int w8) (s_int w8)) least ws))
+    (sel_l (map (top 7) (zip2 (act2 (mask eq) (s_int w8) (s_int w8) (s_int w8)) above past)) found none) none
 
-pub places_ok : (l : Limits) (ws : List ℕ) → length ws ≡ 16 → SwzOk w8 16 16 0 (map (above_one l) ws)
-places_ok l ws long = SwzOk-from_below w8 16 1 16 0 (map (above_one l) ws) refl (omega (arith, length-map ws (above_one l), long)) (each_small l ws)
-
--- and a swizzle looks it up
-pub named : (l : Limits) (xs : List ℕ) (i : ℕ) (ws : List ℕ) → i + length ws ≤ 16 → swz_l w8 16 xs i (map (above_one l) ws) ≡ map (λ w. get_or xs (above_one l w) 0) ws
-named l xs i [] room = refl
-named l xs i (w ∷ ws) room =
-    let n = above_one l w in
-    let first : 16 * (i / 16) + n ≡ n = omega (arith, room) in
-    let rest = swz_l w8 16 xs (suc i) (map (above_one l) ws) in
-    ap (λ k. cond (leb 128 n) 0 (get_or xs k 0) ∷ rest) first
-    ∙ ap (λ b. cond b 0 (get_or xs n 0) ∷ rest) (lt-leb 128 n (omega (arith, few_above l w)))
-    ∙ ap (λ t. get_or xs n 0 ∷ t) (named l xs (suc i) ws (omega (arith, room)))
-
--- what the code computes of the two limits of each width, and of the modules that it is nearest to
-abbrev compared : List ℕ → List ℕ → List Bool
-compared xs ys = map (top 7) (zip2 (act2 (mask (le unsigned)) (s_int w8) (s_int w8) (s_int w8)) xs ys)
-
-abbrev pub computed : List ℕ → List ℕ → List ℕ → List ℕ → List ℕ → List ℕ
-computed least past none found ws = sel_l (compared least ws) (sel_l (compared past ws) none found) none
-
-one_lane : (p q : Bool) (n : ℕ) → cond (top 7 (cond p 255 0)) (cond (top 7 (cond q 255 0)) 0 n) 0 ≡ cond p (cond q 0 n) 0
+one_lane : (p q : Bool) (n : ℕ) → cond (top 7 (cond p 255 0)) (cond (top 7 (cond q 255 0)) n 0) 0 ≡ cond (p && q) n 0
 one_lane true true n = refl
 one_lane true false n = refl
 one_lane false true n = refl
 one_lane false false n = refl
 
-computed_maps : (a b d : ℕ → ℕ) (ws : List ℕ)
-    → computed (map a ws) (map b ws) (map (λ w. 0) ws) (map d ws) ws ≡ map (λ w. cond (leb (a w) w) (cond (leb (b w) w) 0 (d w)) 0) ws
-computed_maps a b d [] = refl
-computed_maps a b d (w ∷ ws) = ap₂ (λ x xs. x ∷ xs) (one_lane (leb (a w) w) (leb (b w) w) (d w)) (computed_maps a b d ws)
+computed_maps : (a b c d : ℕ → ℕ) (ws : List ℕ)
+    → computed (map a ws) (map b ws) (map c ws) (map (λ w. 0) ws) (map d ws) ws ≡ map (λ w. cond (leb (a w) w && b w == c w) (d w) 0) ws
+computed_maps a b c d [] = refl
+computed_maps a b c d (w ∷ ws) = ap₂ (λ x xs. x ∷ xs) (one_lane (leb (a w) w) (b w == c w) (d w)) (computed_maps a b c d ws)
 
-pub lanes_computed : (a b d : ℕ → ℕ) (ws least past none found : List ℕ) → least ≡ map a ws → past ≡ map b ws → none ≡ map (λ w. 0) ws → found ≡ map d ws
-    → computed least past none found ws ≡ map (λ w. cond (leb (a w) w) (cond (leb (b w) w) 0 (d w)) 0) ws
-lanes_computed a b d ws least past none found is_a is_b is_none is_d =
-    (λ i. computed (is_a i) (is_b i) (is_none i) (is_d i) ws) ∙ computed_maps a b d ws
+pub lanes_computed : (a b c d : ℕ → ℕ) (ws least above past none found : List ℕ)
+    → least ≡ map a ws → above ≡ map b ws → past ≡ map c ws → none ≡ map (λ w. 0) ws → found ≡ map d ws
+    → computed least above past none found ws ≡ map (λ w. cond (leb (a w) w && b w == c w) (d w) 0) ws
+lanes_computed a b c d ws least above past none found is_a is_b is_c is_none is_d =
+    (λ i. computed (is_a i) (is_b i) (is_c i) (is_none i) (is_d i) ws) ∙ computed_maps a b c d ws
 
 -- if no bit is set of those that are 0, all are near
 doubled : (n : ℕ) → (0 + 2 * n == 0) ≡ (n == 0)
@@ -131,20 +129,23 @@ pub casts : (ws : List ℕ) → Each1 (λ w. w < 256) ws → Each1 (Asks1 (cast 
 casts [] h = tt
 casts (w ∷ ws) h = (record { fits = h.0 }, casts ws h.1)
 
--- the modules by the limits that a width comes up to
-abbrev pub value : Limits → ℕ → Bool → Bool → Bool → ℕ
-value l w p q r =
-    let n = cond p 1 0 + cond q 1 0 + cond r 1 0 in
-    cond (nat_le (limit_at l.one l.two l.three l.four n) w) (cond (nat_le (limit_at l.past_one l.past_two l.past_three l.past_four n) w) 0 (n + 1)) 0
+-- the modules by the limits that a width comes up to and is past
+abbrev value : Bool → Bool → Bool → Bool → Bool → Bool → Bool → Bool → ℕ
+value o p q r a b c d =
+    let n = cond p 1 0 + cond q 1 0 + cond r 1 0 in cond (o && n == cond a 1 0 + cond b 1 0 + cond c 1 0 + cond d 1 0) (n + 1) 0
 
 -- no width above 255 is near to some modules, if the limits are bytes, and so it may be taken as 255
 wide_none : (l : Limits) → AreSmall l → (w : ℕ) → 255 ≤ w → modules_or_none l w ≡ 0
 wide_none l small w wide =
+    let one : nat_le l.one w ≡ true = le-leb l.one w (omega (arith, small.0, wide)) in
     let two : nat_le l.two w ≡ true = le-leb l.two w (omega (arith, small.1, wide)) in
     let three : nat_le l.three w ≡ true = le-leb l.three w (omega (arith, small.2, wide)) in
     let four : nat_le l.four w ≡ true = le-leb l.four w (omega (arith, small.3, wide)) in
-    let past : nat_le l.past_four w ≡ true = le-leb l.past_four w (omega (arith, small.7, wide)) in
-    (λ i. value l w (two i) (three i) (four i)) ∙ (λ i. cond (four i) (cond (past i) 0 4) 0)
+    let a : nat_le l.past_one w ≡ true = le-leb l.past_one w (omega (arith, small.4, wide)) in
+    let b : nat_le l.past_two w ≡ true = le-leb l.past_two w (omega (arith, small.5, wide)) in
+    let c : nat_le l.past_three w ≡ true = le-leb l.past_three w (omega (arith, small.6, wide)) in
+    let d : nat_le l.past_four w ≡ true = le-leb l.past_four w (omega (arith, small.7, wide)) in
+    λ i. value (one i) (two i) (three i) (four i) (a i) (b i) (c i) (d i)
 
 same_modules : (l : Limits) → AreSmall l → (w : ℕ) → modules_or_none l (as_byte w) ≡ modules_or_none l w
 same_modules l small w =

@@ -1,11 +1,10 @@
 //! Rounds sixteen runs at a time, if no limit is above 255 dots, as in most rows: each byte of a vector is a run.
 //!
-//! Of the limits above one module, as many as a width comes up to say how many modules are nearest to it. This number
-//! names the least width of so many modules and the first width past them, so that two comparisons more say whether it is
-//! near. A table of widths would need fewer steps for a block, but is made anew for each row, and most have few blocks.
-ghost use Rattle.std.specs.Prelude.{◌≡◌, ◌+◌, ◌++◌, ◌∷◌, ◌≤◌, cond, drop, length, map, nat_le, replicate, take, true};
+//! Each limit is compared with all sixteen, as `modules_of` of rounding.rt compares them with one. A table of widths would need
+//! fewer steps for a block, but is made anew for each row, and most have few blocks.
+ghost use Rattle.std.specs.Prelude.{◌≡◌, ◌+◌, ◌++◌, ◌≤◌, cond, drop, length, map, nat_le, take, true};
 ghost use Rattle.std.specs.Simd.Lanes.{zip2};
-ghost use Rattle.scan_core.specs.inner.RunLanes.{AreSmall, above_one, are_near, modules_or_none, reaches};
+ghost use Rattle.scan_core.specs.inner.RunLanes.{AreSmall, above_one, are_near, modules_or_none, passed, reaches};
 
 use crate::rounding::Limits;
 use std::simd::prelude::*;
@@ -20,22 +19,6 @@ fn reached(widths: u8x16, limits: u8x16) -> u8x16
         .select(u8x16::splat(1), u8x16::splat(0))
 }
 
-/// Four limits, and zeros behind them.
-#[inline(always)]
-fn in_lanes(one: u16, two: u16, three: u16, four: u16) -> u8x16
-    requires one { one ≤ 255 }
-    requires two { two ≤ 255 }
-    requires three { three ≤ 255 }
-    requires four { four ≤ 255 }
-    ensures { result ≡ one ∷ two ∷ three ∷ four ∷ replicate 12 0 }
-{
-    let a = one as u8;
-    let b = two as u8;
-    let c = three as u8;
-    let d = four as u8;
-    u8x16::from_array([a, b, c, d, 0, 0, 0, 0, 0, 0, 0, 0, 0, 0, 0, 0])
-}
-
 /// To how many limits above one module each width comes up.
 #[inline(always)]
 fn above_one(widths: u8x16, limits: Limits) -> u8x16
@@ -47,6 +30,18 @@ fn above_one(widths: u8x16, limits: Limits) -> u8x16
         + reached(widths, u8x16::splat(limits.four as u8))
 }
 
+/// How many limits each width is past.
+#[inline(always)]
+fn passed(widths: u8x16, limits: Limits) -> u8x16
+    requires small { AreSmall limits }
+    ensures { result ≡ map (passed limits) widths }
+{
+    reached(widths, u8x16::splat(limits.past_one as u8))
+        + reached(widths, u8x16::splat(limits.past_two as u8))
+        + reached(widths, u8x16::splat(limits.past_three as u8))
+        + reached(widths, u8x16::splat(limits.past_four as u8))
+}
+
 /// The number of modules of each run, 0 for one that is near to none.
 #[inline(always)]
 fn modules_of_each(widths: u8x16, limits: Limits) -> u8x16
@@ -54,18 +49,13 @@ fn modules_of_each(widths: u8x16, limits: Limits) -> u8x16
     ensures { result ≡ map (modules_or_none limits) widths }
 {
     let above = above_one(widths, limits);
-    let least = in_lanes(limits.one, limits.two, limits.three, limits.four);
-    let past = in_lanes(
-        limits.past_one,
-        limits.past_two,
-        limits.past_three,
-        limits.past_four,
-    );
-    let least = least.swizzle_dyn_within::<16>(above);
-    let past = past.swizzle_dyn_within::<16>(above);
     let none = u8x16::splat(0);
-    let not_past = past.simd_le(widths).select(none, above + u8x16::splat(1));
-    least.simd_le(widths).select(not_past, none)
+    let found = above
+        .simd_eq(passed(widths, limits))
+        .select(above + u8x16::splat(1), none);
+    u8x16::splat(limits.one as u8)
+        .simd_le(widths)
+        .select(found, none)
 }
 
 /// Whether no lane is 0.

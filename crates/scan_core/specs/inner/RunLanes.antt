@@ -1,5 +1,5 @@
 -- The number of modules of a run, by the limits of widths.
-use Rattle.std.specs.Prelude.{ℕ, ◌+◌, ◌==◌, ◌≤◌, ◌∷◌, Bool, List, cond, get_or, nat_le, not, replicate}
+use Rattle.std.specs.Prelude.{ℕ, ◌+◌, ◌==◌, ◌≤◌, ◌&&◌, Bool, List, cond, nat_le, not}
 use Rattle.std.specs.List.{list_all}
 use Rattle.scan_core.specs.declared.rounding.Limits.{Limits}
 
@@ -17,16 +17,13 @@ reaches limit width = cond (nat_le limit width) 1 0
 abbrev pub above_one : Limits → ℕ → ℕ
 above_one l width = reaches l.two width + reaches l.three width + reaches l.four width
 
--- the first, second, third or fourth of four limits, by 0 to 3
-abbrev pub limit_at : ℕ → ℕ → ℕ → ℕ → ℕ → ℕ
-limit_at one two three four n = get_or (one ∷ two ∷ three ∷ four ∷ replicate 12 0) n 0
+-- how many limits it is past
+abbrev pub passed : Limits → ℕ → ℕ
+passed l width = reaches l.past_one width + reaches l.past_two width + reaches l.past_three width + reaches l.past_four width
 
 -- the modules of a run of this width, and 0 if it is near to none
 abbrev pub modules_or_none : Limits → ℕ → ℕ
-modules_or_none l width =
-    let n = above_one l width in
-    cond (nat_le (limit_at l.one l.two l.three l.four n) width)
-    (cond (nat_le (limit_at l.past_one l.past_two l.past_three l.past_four n) width) 0 (n + 1)) 0
+modules_or_none l width = cond (nat_le l.one width && above_one l width == passed l width) (above_one l width + 1) 0
 
 -- whether each run is near to some
 abbrev pub are_near : List ℕ → Bool

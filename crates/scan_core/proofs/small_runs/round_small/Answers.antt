@@ -1,5 +1,5 @@
 -- Each block puts its modules behind those before it; the last has the last sixteen runs.
-use Rattle.std.proofs.Common.{◌+◌, ◌≤◌, ◌&&◌, ◌∙◌, arith, length, sym, true}
+use Rattle.std.proofs.Common.{◌+◌, ◌≤◌, ◌&&◌, ◌∙◌, arith, length, sym}
 use Rattle.scan_core.specs.inner.RunLanes.{modules_or_none}
 use Rattle.scan_core.proofs.RunLanes.{block_put, far_block, last_near, last_put, length_new, near_more}
 use Rattle.scan_core.proofs.small_runs.round_small.Goals as goal
