@@ -1,6 +1,7 @@
 -- Lemmas that the proofs of `src/answers/` cite, by subject; those of `src/live/` use PlainBytes too.
 pub mod FeedsGrow
 pub mod FirstLine
+pub mod HeldBytes
 pub mod LineFronts
 pub mod LinesAsBrought
 pub mod PlainBytes

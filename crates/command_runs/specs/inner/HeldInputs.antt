@@ -1,5 +1,5 @@
 -- An input that comes in pieces (`answers/held_input.rt`): what was taken of its source, and what of that is held.
-use Rattle.std.specs.Prelude.{◌≡◌, ◌≤◌, ◌<◌, ◌+◌, ◌++◌, ℕ, Bool, false, true, List, [], Option, Result, Ok, Err, drop, length}
+use Rattle.std.specs.Prelude.{◌≡◌, ◌≤◌, ◌<◌, ◌+◌, ◌++◌, ℕ, Bool, false, true, List, [], Option, Result, Ok, Err, drop, length, slice_range}
 use Rattle.std.specs.Borrow.{MutBor}
 use Rattle.std.specs.Global.{Vec}
 use Rattle.std.specs.Io.KnownBytes.{Consumes, IsAtEnd}
@@ -11,7 +11,7 @@ use Rattle.command_runs.specs.declared.answers.held_input.HeldInput.{HeldInput}
 
 -- what is held
 abbrev pub held_of : {S : Type 0} → HeldInput S → List ℕ
-held_of i = drop i.start i.bytes.items
+held_of i = slice_range i.bytes.items i.start i.end
 
 -- of a source that was lent, this was taken so far, and no read has failed
 pub record HasTaken {S : Type 0} (left : S → Option (List ℕ)) (failed : S → Bool) (lent : MutBor S) (i : HeldInput S) (taken : List ℕ) : Type 0 where
@@ -43,6 +43,10 @@ HoldsNothing left failed lent i = HasTaken left failed lent i [] × (held_of i �
 -- this many bytes are given up at the front of what is held
 abbrev pub GivesUp : {S : Type 0} → ℕ → HeldInput S → HeldInput S → Type 0
 GivesUp count old new = (held_of new ≡ drop count (held_of old)) × (new.source ≡ old.source) × (new.room ≡ old.room)
+
+-- what is held is moved to the front
+abbrev pub MakesRoom : {S : Type 0} → HeldInput S → HeldInput S → Type 0
+MakesRoom old new = (held_of new ≡ held_of old) × (new.start ≡ 0) × (new.source ≡ old.source) × (new.room ≡ old.room)
 
 -- a piece has a byte, or nothing more comes
 abbrev pub IsPieceOrEnd : {S : Type 0} → (S → Option (List ℕ)) → Bool → HeldInput S → List ℕ → Type 0

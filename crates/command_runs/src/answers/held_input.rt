@@ -1,10 +1,10 @@
 //! An input that comes in pieces: the bytes that came are held until a reader gives them up. `Lines` of wire_core holds
 //! those of a wire, and gives up the front of a line that is too long.
-ghost use Rattle.std.specs.Prelude.{◌≡◌, ◌≤◌, IfOk, length};
+ghost use Rattle.std.specs.Prelude.{◌≡◌, ◌+◌, ◌≤◌, length, true};
 
 use csv_records::INPUT_LIMIT;
 use digits_core::{InputFault, Source};
-use std::alloc::{AllocError, Global};
+use std::alloc::Global;
 use std::mem;
 
 /// How many bytes are asked for at a time, a choice for speed: the `CHUNK` of another crate need not be the same.
@@ -18,27 +18,18 @@ pub struct HeldInput<'a, S> {
     pub source: &'a mut S,
     /// How many bytes may still come before the input is too long.
     room: usize,
-    /// What is held, from `start` on.
+    /// What is held, from `start` to `end`; a piece is read behind it.
     bytes: Vec<u8>,
     start: usize,
-    /// Where a piece is read to, before its bytes are appended: `make_chunk`.
-    chunk: Vec<u8>,
-    ghost ok: { (start ≤ length bytes.items) × (length chunk.items ≡ 65536) },
-}
-
-/// Room for a piece.
-pub fn make_chunk(alloc: Global) -> Result<Vec<u8>, AllocError>
-    ensures { IfOk result (λ chunk. length chunk.items ≡ 65536) }
-{
-    Vec::from_elem(alloc, 0u8, CHUNK)
+    end: usize,
+    ghost ok: { (start ≤ end) × (end ≤ length bytes.items) },
 }
 
 impl<'a, S: Source> HeldInput<'a, S> {
-    ghost use Rattle.command_runs.specs.inner.HeldInputs.{GivesUp, HoldsMore, HoldsNothing, PassesRest, ReadsRest, held_of};
+    ghost use Rattle.command_runs.specs.inner.HeldInputs.{GivesUp, HoldsMore, HoldsNothing, MakesRoom, PassesRest, ReadsRest, held_of};
 
     /// The input that this source gives, of which nothing is held.
-    pub fn new(alloc: Global, source: &'a mut S, chunk: Vec<u8>) -> HeldInput<'a, S>
-        requires { length chunk.items ≡ 65536 }
+    pub fn new(alloc: Global, source: &'a mut S) -> HeldInput<'a, S>
         ensures { HoldsNothing S.left S.failed source.entry result }
     {
         HeldInput {
@@ -46,7 +37,7 @@ impl<'a, S: Source> HeldInput<'a, S> {
             room: INPUT_LIMIT,
             bytes: Vec::new(alloc),
             start: 0,
-            chunk,
+            end: 0,
         }
     }
 
@@ -54,7 +45,7 @@ impl<'a, S: Source> HeldInput<'a, S> {
     pub fn held(&self) -> &[u8]
         ensures { result.now ≡ held_of self.now }
     {
-        &self.bytes.as_slice()[self.start..]
+        &self.bytes.as_slice()[self.start..self.end]
     }
 
     /// Gives up this many bytes that are held, from the first on.
@@ -65,25 +56,35 @@ impl<'a, S: Source> HeldInput<'a, S> {
         self.start += count;
     }
 
+    /// Moves what is held to the front, and makes room for a piece behind it. False if memory is refused.
+    fn make_room(&mut self) -> bool
+        ensures kept { MakesRoom self.old self.new }
+        ensures room { result ≡ true → self.new.end + 65536 ≤ length self.new.bytes.items }
+    {
+        // In place of `drain`, which moves byte by byte; `keep_rest` of wire_core does the same.
+        self.bytes.copy_within(self.start..self.end, 0);
+        self.end -= self.start;
+        self.start = 0;
+        let least = self.end + CHUNK;
+        self.bytes.len() >= least || self.bytes.resize(least, 0).is_ok()
+    }
+
     /// Reads the next piece behind what is held. False if there is none.
     pub fn read_piece(&mut self) -> Result<bool, InputFault>
         ensures { HoldsMore S.left S.failed self.old result self.new }
     {
-        // In place of `drain`, which moves byte by byte; `keep_rest` of wire_core does the same.
-        let len = self.bytes.len();
-        self.bytes.copy_within(self.start..len, 0);
-        self.bytes.truncate(len - self.start);
-        self.start = 0;
-        let Ok(count) = self.source.read(self.chunk.as_mut_slice()) else {
+        if !self.make_room() {
+            return Err(InputFault::NoMemory);
+        }
+        let piece = &mut self.bytes.as_mut_slice()[self.end..self.end + CHUNK];
+        let Ok(count) = self.source.read(piece) else {
             return Err(InputFault::ReadFault);
         };
         if count > self.room {
             return Err(InputFault::InputSize);
         }
         self.room -= count;
-        if self.bytes.extend_from_slice(&self.chunk[..count]).is_err() {
-            return Err(InputFault::NoMemory);
-        }
+        self.end += count;
         Ok(count > 0)
     }
 
@@ -92,8 +93,9 @@ impl<'a, S: Source> HeldInput<'a, S> {
         ensures { ReadsRest S.left S.failed self.old result self.new }
     {
         'pieces: while self.read_piece()? {}
-        // `read_piece` left 0 there. It is set again for `ok`, which holds of the empty `bytes` then.
-        self.start = 0;
+        // `read_piece` has moved what is held to the front.
+        self.bytes.truncate(self.end);
+        (self.start, self.end) = (0, 0);
         Ok(mem::replace(&mut self.bytes, Vec::new(alloc)))
     }
 

@@ -1,5 +1,5 @@
 //! The rows of the records that a source gives, one after another.
-ghost use Rattle.std.specs.Prelude.{None, ◌≡◌, ◌≢◌, length, true};
+ghost use Rattle.std.specs.Prelude.{None, ◌≡◌, ◌≢◌, true};
 ghost use Rattle.command_runs.specs.inner.Lines.{line_start};
 ghost use Rattle.command_runs.specs.inner.RowReaders.{GoesOnAs, GoesToCsv};
 
@@ -89,15 +89,14 @@ impl<'a, S: Source> RowReader<'a, S> {
     ghost use Rattle.command_runs.specs.inner.RowReaders.{BeginsRows, GivesNextRow, GoesOnFrom, IsAtLastLine, PassesRows, ReadsLine, StaysAtLines, TellsRow, WasRead, WhyRefused, is_over};
 
     /// A reader for this many lanes, which has read nothing of the source.
-    pub fn new(alloc: Global, lanes: u8, source: &'a mut S, chunk: Vec<u8>) -> RowReader<'a, S>
-        requires { length chunk.items ≡ 65536 }
+    pub fn new(alloc: Global, lanes: u8, source: &'a mut S) -> RowReader<'a, S>
         ensures same_reference { result.input.source.ghost_name ≡ source.entry.ghost_name }
         ensures gave { BeginsRows S.left S.failed lanes source.entry result }
     {
         RowReader {
             alloc,
             lanes,
-            input: HeldInput::new(alloc, source, chunk),
+            input: HeldInput::new(alloc, source),
             count: 0,
             course: Course::Lines,
         }

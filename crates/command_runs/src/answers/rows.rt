@@ -6,7 +6,6 @@ ghost use Rattle.command_runs.specs.answers.Rows.{AnswersRows, RefusesRows};
 ghost use Rattle.command_runs.specs.inner.RowReaders.{is_over};
 ghost use Rattle.command_runs.specs.inner.ServedRows.{AreAnswered, BeginsUnanswered, TellsOfRows};
 
-use crate::answers::held_input::make_chunk;
 use crate::answers::report::joined;
 use crate::answers::row_reader::{Course, RowReader};
 use crate::answers::serving::{AnswerFault, fault_of, make_texts, push_answer_of};
@@ -150,14 +149,10 @@ pub fn answer_records<R: Threads + Wait + Sync, S: Source, G: Gate + Sync>(
     ensures refused { IfErr result (RefusesRows lanes (S.left source.old) (S.left source.new)) }
     ensures fault { TellsFault S.failed source.old source.new result (RowsFault.Records RecordsFault.ReadFault) }
 {
-    let (Ok(texts), Ok(chunk), Ok(pool)) = (
-        make_texts(alloc, lanes),
-        make_chunk(alloc),
-        RowPool::new(alloc),
-    ) else {
+    let (Ok(texts), Ok(pool)) = (make_texts(alloc, lanes), RowPool::new(alloc)) else {
         return Err(RowsFault::Records(RecordsFault::NoMemory));
     };
-    let rows = RowReader::new(alloc, lanes, source, chunk);
+    let rows = RowReader::new(alloc, lanes, source);
     let (mut rows, lines) = serve_rows(rt, alloc, lanes, workers, year, rows, texts, pool, gate);
     let told = match lines {
         Ok(texts) => match joined(alloc, texts) {

@@ -4,4 +4,4 @@ use Rattle.std.proofs.KnownBytes.{Consumes-nil}
 use Rattle.command_runs.proofs.answers.held_input.HeldInput.new.Goals as goal
 
 pub returns : goal.returns
-returns g c = (record { same = refl; came = Consumes-nil _; room = refl; works = refl }, c.new.ensures.items, refl)
+returns g c = (record { same = refl; came = Consumes-nil _; room = refl; works = refl }, refl, refl)

@@ -1,7 +1,8 @@
 -- The pieces that are read, one behind another, are all that was left; `pass_rest` keeps none of them.
-use Rattle.std.proofs.Common.{[], ap, arith, append-nil, append_assoc, drop, refl, sym, ◌++◌, ◌∙◌}
+use Rattle.std.proofs.Common.{[], ap, arith, append-nil, append_assoc, refl, sym, ◌++◌, ◌∙◌}
 use Rattle.command_runs.specs.inner.HeldInputs.{held_of}
 use Rattle.command_runs.proofs.ToldFaults.{told_fault}
+use Rattle.command_runs.proofs.answers.HeldBytes.{all_held}
 use Rattle.command_runs.proofs.answers.TakenAddsUp.{stops_later, takes_as, takes_both, takes_none}
 use Rattle.command_runs.proofs.answers.held_input.HeldInput.read_rest.Goals as goal
 
@@ -23,11 +24,11 @@ pub returns : goal.returns
 returns g c =
     let was = c.pieces.invariant in
     let now = rw c.if-branch.false at c.in_ok-read_piece.ensures in
-    let bytes = c.read_piece.new.self.bytes.items in (
+    let held = c.read_piece.new.self in (
       omega (arith, was.room, now.3),
       (
         was.more ++ now.0,
-        ap (λ v. v.items) c.replace.ensures.value ∙ sym (ap (λ n. drop n bytes) now.2) ∙ now.1 ∙ ap (λ xs. xs ++ now.0) was.held ∙ append_assoc (held_of c.args.self.now) was.more now.0,
+        ap (λ v. v.items) c.replace.ensures.value ∙ c.truncate.ensures.items ∙ all_held held.bytes.items held.start held.end now.2 ∙ now.1 ∙ ap (λ xs. xs ++ now.0) was.held ∙ append_assoc (held_of c.args.self.now) was.more now.0,
         now.4.1,
         takes_as _ _ c.args.self.now c.read_piece.new.self _ (was.more ++ now.0) refl refl
             (takes_both _ _ c.args.self.now c.pieces.self c.read_piece.new.self was.more now.0 was.takes now.5),
