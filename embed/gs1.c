@@ -35,6 +35,7 @@ uint32_t gs1_c_read_row(const uint16_t *widths, size_t count, uint16_t year, str
 uint32_t gs1_c_read_dots(const uint8_t *bits, size_t bytes, uint32_t count, uint16_t year, struct gs1_answer *answer);
 uint32_t gs1_c_read_data(const uint8_t *line, size_t length, uint16_t year, struct gs1_answer *answer);
 size_t gs1_c_format(const struct gs1_answer *answer, uint32_t form, uint8_t *out, size_t room);
+size_t gs1_c_conflicts(const struct gs1_answer *answer, struct gs1_conflict *out, size_t room);
 uint32_t gs1_c_measure(const struct gs1_look *look, const struct gs1_article *article, uint16_t year, struct gs1_measure *measure);
 uint32_t gs1_c_plan(const struct gs1_look *look, const struct gs1_measure *measures, size_t count, struct gs1_plan *plan);
 uint32_t gs1_c_draw(const struct gs1_look *look, const struct gs1_plan *plan, const struct gs1_article *article, uint16_t year, uint8_t *row,
@@ -186,6 +187,10 @@ static const struct gs1_answer no_answer = {.fault = GS1_FAULT_KIND, .place = GS
 
 size_t gs1_format(const struct gs1_answer *answer, enum gs1_form form, uint8_t *out, size_t room) {
     return gs1_c_format(answer ? answer : &no_answer, (uint32_t)form, OUT);
+}
+
+size_t gs1_conflicts(const struct gs1_answer *answer, struct gs1_conflict *conflicts, size_t room) {
+    return gs1_c_conflicts(answer ? answer : &no_answer, WRITE(struct gs1_conflict, conflicts, room));
 }
 
 /* What is lent, with pointers to nothing in the place of null pointers. */

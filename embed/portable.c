@@ -98,6 +98,12 @@ LINE(symbol, (uint32_t kind, const uint8_t *text, size_t length, uint16_t year, 
 LINE(label, (uint32_t kind, const uint8_t *text, size_t length, uint16_t year, uint16_t module_dots, uint16_t width, uint16_t height, uint8_t *out, size_t room),
      text, length, kind, at, length, year, module_dots, width, height)
 
+size_t gs1_c_conflicts(const struct gs1_answer *answer, struct gs1_conflict *out, size_t room) {
+    begin();
+    const u64 at = given(answer, sizeof *answer), to = given(out, (u64)room * sizeof *out);
+    return is_full ? 0 : told(Z_gs1Z_gs1_c_conflicts(&module, at, to, room), to, (uint8_t *)out, room * sizeof *out);
+}
+
 size_t gs1_c_picture_room(uint32_t width, uint32_t height) {
     begin();
     return (size_t)Z_gs1Z_gs1_c_picture_room(&module, width, height);

@@ -1,13 +1,16 @@
 // GS1 barcodes for Node and browsers: turns the answers of the proved library into values of JavaScript.
 import { adviceOf, wordsOf } from "./advice.js";
-import { aiAt, associations, doubts, elementOf, needsSeparator } from "./elements.js";
+import { aiAt, elementOf, needsSeparator } from "./elements.js";
 import { MODULE, VERSION } from "./module.js";
 import { Gs1 as Calls, askFor, greyOf, gtinOf, isGtin, readText, stripped, symbolsShown } from "./page.js";
 
-export { VERSION, associations, doubts };
+export { VERSION };
 
 // The largest input.
 const MOST_WIDTHS = 131_072, MOST_BYTES = 262_144, MOST_U16 = 65_535;
+
+// The kinds of conflicts, by their numbers in gs1.h, how many bytes each conflict has, and the most of an answer.
+const CONFLICTS = [undefined, "needs", "excludes", "differs", "country", "currency", "prefix"], CONFLICT = 48, MOST_CONFLICTS = 240;
 
 // For calls whose answer has no day.
 const ANY_YEAR = 2000;
@@ -196,6 +199,17 @@ class Gs1 {
     return text;
   }
 
+  conflicts(elements) {
+    const listed = Array.from(elements), ends = listed.reduce((all, { ai, value }) => [...all, all.at(-1) + ai.length + value.length], [0]);
+    if (listed.length > 48 || ends.at(-1) > 192) throw new Refusal(11, "TooLong");
+    const view = new DataView(this.#calls.bytes.buffer, this.#calls.input);
+    [[5, listed.length], [6, ends.at(-1)]].forEach(([at, byte]) => view.setUint8(at, byte));
+    this.#calls.bytes.set(new TextEncoder().encode(listed.map(({ ai, value }) => ai + value).join("")).subarray(0, 192), 12);
+    listed.forEach(({ ai }, i) => [ends[i], ends[i] + ai.length, ends[i + 1]].forEach((index, k) => view.setUint8(204 + 18 * i + k, index)));
+    const count = Number(this.#calls.calls.gs1_c_conflicts(BigInt(this.#calls.input), BigInt(this.#calls.output), BigInt(MOST_CONFLICTS)));
+    return Array.from({ length: count }, (_, i) => conflictOf(listed, this.#calls.answer.subarray(CONFLICT * i, CONFLICT * (i + 1))));
+  }
+
   readGtin(text) {
     const ask = (it) => this.#read("gs1_c_read_gtin", ...this.#put(bytesOf(it)), ANY_YEAR).text.slice("01".length);
     return noting(askedOf("readGtin", text, ask), () => ask(text));
@@ -312,6 +326,18 @@ class Gs1 {
     if (read[0].ai !== ai) throw new Refusal(5, "UnknownAi", at);
     if (read.length !== 1 || read[0].value !== value) throw more();
   }
+}
+
+// A conflict of these elements, in `struct gs1_conflict` of gs1.h.
+function conflictOf(elements, [kind, element, other, ...text]) {
+  const told = { kind: CONFLICTS[kind], element: elements[element], other: elements[other], code: latin1(text).replace(/\0+$/, "") };
+  return { ...told, text: `${told.element.ai}${conflictWords(told)}` };
+}
+
+function conflictWords({ kind, element, other, code }) {
+  if (kind === "needs") return ` needs ${code.replaceAll(",", " or ")}`;
+  if (kind === "excludes") return ` excludes ${other.ai}`;
+  return kind === "differs" ? `: ${other.value} and ${element.value} differ` : `: ${code} is no ${kind === "prefix" ? "GS1 Company Prefix" : kind}`;
 }
 
 const answerOf = ({ identifier, symbol, elements }) => new Answer(identifier || undefined, symbol, elements);

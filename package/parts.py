@@ -143,7 +143,7 @@ def _texts_only(version: str) -> Files:
 
 _NPM_EXPORT = """\
 export {
-  AIS, COUNTRY_LETTERS, Gs1, KNOWN_COUNTRIES, countriesOf, countryCodes, currencyOf, greyOf, gtinOf, isOf, numberOf, paddedGtin, placeOf, remedyAlone,
+  AIS, Gs1, countriesOf, currencyOf, greyOf, gtinOf, numberOf, paddedGtin, placeOf, remedyAlone,
   isGtin, readText, remedyOfDigits, remedyOfEither, remedyOfIdentified, remedyOfString, remedyOfTyped, stripped, symbolsShown, unitOf, usualRemedy,
   writtenOtherwise,
 };

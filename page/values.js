@@ -7,7 +7,7 @@ function aisFrom(least, greatest) {
 }
 
 // The table, by its AIs.
-const AIS = new Map(AI_ROWS.flatMap(([least, greatest, isPredefined, title, rules]) => aisFrom(least, greatest).map((ai) => [ai, { isPredefined: isPredefined === 1, title, rules }])));
+const AIS = new Map(AI_ROWS.flatMap(([least, greatest, isPredefined, title]) => aisFrom(least, greatest).map((ai) => [ai, { isPredefined: isPredefined === 1, title }])));
 
 const lettersOf = (packed) => new Map(packed.split(" ").map((code) => [code.slice(0, 3), code.slice(3)]));
 const COUNTRY_LETTERS = lettersOf(COUNTRIES), CURRENCY_LETTERS = lettersOf(CURRENCIES), KNOWN_COUNTRIES = new Set(COUNTRY_LETTERS.values());

@@ -260,6 +260,22 @@ enum gs1_form { GS1_AS_DATA = 0, GS1_AS_HRI = 1 };
  * is empty. If `form` is none of these, the line is `refused 40 Kind`. */
 size_t gs1_format(const struct gs1_answer *answer, enum gs1_form form, uint8_t *out, size_t room);
 
+/* What is wrong with an element beside the others: it needs an element of one of the AIs of `text`, such as "01,02,310n", in which n stands for
+ * any digit; it excludes the element `other`; the element `other`, before it, has the same AI and another value; or `text` is a code of no
+ * country (ISO 3166), a code of no currency (ISO 4217), or the beginning of a value that begins with no GS1 Company Prefix. */
+enum gs1_conflict_kind { GS1_NEEDS = 1, GS1_EXCLUDES = 2, GS1_DIFFERS = 3, GS1_NO_COUNTRY = 4, GS1_NO_CURRENCY = 5, GS1_NO_PREFIX = 6 };
+
+/* A conflict of the element of an index. `other` is an index too, or 255. A 0 ends the text. */
+struct gs1_conflict {
+    uint8_t kind, element, other;
+    char text[45];
+};
+
+/* Writes the conflicts of an answer, in the order of its elements, as many as there is room for, and returns how many it wrote. They are no
+ * errors: what a needed element says may stand in another symbol, and lists of codes change. You may fill the answer yourself, as for
+ * gs1_format. */
+size_t gs1_conflicts(const struct gs1_answer *answer, struct gs1_conflict *conflicts, size_t room);
+
 /* ---- Labels laid out: what is drawn of an article, and where. Each call returns 0, or the number of the error. Lengths are dots unless a
  * name says mm. Labels of a list look even if they have a plan in common: call gs1_measure for each article, gs1_plan once for all measures,
  * and then gs1_draw for each article. */

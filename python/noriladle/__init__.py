@@ -29,19 +29,20 @@ import struct
 from dataclasses import dataclass, field
 from decimal import Decimal
 from functools import lru_cache, wraps
+from itertools import accumulate
 from pathlib import Path
 from typing import TYPE_CHECKING, Any, Callable, Dict, Iterable, Iterator, List, Literal, NamedTuple, Optional, Sequence, Tuple, TypeVar, Union, cast, get_args
 
 from . import _values
-from ._values import Association, Doubt, Place
+from ._values import Place
 
 if TYPE_CHECKING:
     from ._mending import Advice as _Advice
     from .picture import Picture
 
 __all__ = [
-    "Ais", "Answer", "Association", "Box", "Doubt", "Element", "Found", "Kind", "LabelSymbol", "Place", "Refusal", "Symbol", "SymbolKind", "Symbols",
-    "associations", "check_digit", "compose", "doubts", "draw_label", "find", "find_dots", "label_symbol", "parse_elements", "read_dots",
+    "Ais", "Answer", "Box", "Conflict", "ConflictKind", "Element", "Found", "Kind", "LabelSymbol", "Place", "Refusal", "Symbol", "SymbolKind", "Symbols",
+    "check_digit", "compose", "conflicts", "draw_label", "find", "find_dots", "label_symbol", "parse_elements", "read_dots",
     "read_elements", "read_gtin", "read_picture", "read_row", "read_scan", "read_text",
 ]
 
@@ -62,17 +63,24 @@ Ais = Literal["all", "profile"]
 SymbolKind = Literal["ean13", "upca", "upce", "ean8", "itf14", "gs1128", "databar", "datamatrix", "qr_code", "dotcode"]
 """The kinds of symbols that scanners read."""
 
+ConflictKind = Literal["needs", "excludes", "differs", "country", "currency", "prefix"]
+"""What may be wrong with an element beside others."""
+
 _SYMBOLS: Tuple[Optional[SymbolKind], ...] = (None, *get_args(SymbolKind))
 """Those of ``enum gs1_symbol_kind``, by their numbers."""
 _HEAD = struct.Struct("<2H4B4s192s")
 """``struct gs1_answer`` up to its elements: fault, place, symbol, count, length, gtin, identifier, text."""
 _PLACE = struct.Struct("<4BH2BH2B5Bx")
 """``struct gs1_place``: ai, value, end, named; year, month and day, twice; hour, minute, second, number, decimals."""
+_CONFLICT = struct.Struct("<3B45s")
+"""``struct gs1_conflict``: kind, element, other, text."""
+_MOST_ELEMENTS, _MOST_TEXT, _MOST_CONFLICTS = 48, 192, 240
 _NAMES_DAY, _NAMES_TIME, _NAMES_LAST_DAY = 1, 2, 4
 _NO_PLACE = 65_535
 
-_RawAnswer = ctypes.c_char * (_HEAD.size + 48 * _PLACE.size)
-assert ctypes.sizeof(_RawAnswer) == 1068, "the size that gs1.h promises"
+_RawAnswer = ctypes.c_char * (_HEAD.size + _MOST_ELEMENTS * _PLACE.size)
+_RawConflicts = ctypes.c_char * (_MOST_CONFLICTS * _CONFLICT.size)
+assert (ctypes.sizeof(_RawAnswer), _CONFLICT.size) == (1068, 48), "the sizes that gs1.h promises"
 
 _library = ctypes.CDLL(str(Path(__file__).with_name("libgs1.so")))
 _SIZE, _U16, _U32, _BYTES, _WIDTHS = ctypes.c_size_t, ctypes.c_uint16, ctypes.c_uint32, ctypes.c_char_p, ctypes.POINTER(ctypes.c_uint16)
@@ -80,6 +88,7 @@ for _name in ("gs1_read_message", "gs1_read_elements", "gs1_read_gtin", "gs1_rea
     getattr(_library, _name).argtypes = [_BYTES, _SIZE, _U16, _RawAnswer]
 _library.gs1_read_row.argtypes = [_WIDTHS, _SIZE, _U16, _RawAnswer]
 _library.gs1_read_dots.argtypes = [_BYTES, _U32, _U16, _RawAnswer]
+_library.gs1_conflicts.argtypes = [_RawAnswer, _RawConflicts, _SIZE]
 _library.gs1_find.argtypes = [_WIDTHS, _SIZE, _U16, _BYTES, _SIZE]
 _library.gs1_find_dots.argtypes = [_BYTES, _U32, _U16, _BYTES, _SIZE]
 _library.gs1_picture.argtypes = [
@@ -89,7 +98,7 @@ _library.gs1_text.argtypes = [_BYTES, _SIZE, _U16, _BYTES, _SIZE]
 _library.gs1_digit.argtypes = [_BYTES, _SIZE, _BYTES, _SIZE]
 _library.gs1_symbol.argtypes = [_U32, _BYTES, _SIZE, _U16, _BYTES, _SIZE]
 _library.gs1_label.argtypes = [_U32, _BYTES, _SIZE, _U16, _U16, _U16, _U16, _BYTES, _SIZE]
-for _name in ("gs1_text", "gs1_find", "gs1_find_dots", "gs1_picture", "gs1_picture_room", "gs1_digit", "gs1_label", "gs1_symbol"):
+for _name in ("gs1_text", "gs1_find", "gs1_find_dots", "gs1_picture", "gs1_picture_room", "gs1_digit", "gs1_label", "gs1_symbol", "gs1_conflicts"):
     getattr(_library, _name).restype = _SIZE
 
 
@@ -803,25 +812,58 @@ def _check_pair(ai: str, value: str, year: Optional[int], at: int) -> None:
         raise more
 
 
-def associations(elements: Iterable[Element]) -> List[Association]:
-    """What the standard asks of elements that stand together, and is not so. Nothing is refused for this.
+class Conflict(NamedTuple):
+    """What is wrong with an element beside others, or with a code in it. It is no error: what a needed element says may stand
+    in another symbol, and lists of codes change."""
 
-        >>> [str(it) for it in associations([Element("02", "09501101530003")])]
-        ['02 needs 37']
-        >>> [str(it) for it in associations([Element("01", "09501101530003"), Element("37", "5")])]
-        ['01 excludes 37', '37 needs 02 or 8026']
+    kind: ConflictKind
+    element: Element
+    other: Optional[Element]
+    """The element that it excludes, or the one before it that has another value."""
+    text: str
+    """The Application Identifiers of which it needs one, such as ``02,310n``, in which ``n`` stands for any digit; or the code
+    that is in no list."""
+
+    def __str__(self) -> str:
+        ai = self.element.ai
+        if self.other:
+            return f"{ai}: {self.other.value} and {self.element.value} differ" if self.kind == "differs" else f"{ai} excludes {self.other.ai}"
+        if self.kind == "needs":
+            return f"{ai} needs {self.text.replace(',', ' or ')}"
+        return f"{ai}: {self.text} is no {'GS1 Company Prefix' if self.kind == 'prefix' else self.kind}"
+
+
+def conflicts(elements: Iterable[Element]) -> List[Conflict]:
+    """What the standard asks of elements that stand together and is not so, Application Identifiers that stand twice with
+    different values, and codes of countries and currencies that are in no list.
+
+        >>> answer = read_scan("]C10109501101530003" "375\\x1d" "422281", year=2026)
+        >>> [str(it) for it in conflicts(answer)]
+        ['01 excludes 37', '37 needs 02 or 8026', '422: 281 is no country']
+
+    :raises Refusal: 11 ``TooLong`` for more elements than an element string has.
     """
-    return _values.associations(element.ai for element in elements)
+    listed = elements if isinstance(elements, Answer) else Answer(None, tuple(elements))
+    text, places = listed.__dict__.get("_told") or _told_of(listed.elements)
+    raw, found = _RawAnswer(), _RawConflicts()
+    _HEAD.pack_into(raw, 0, 0, _NO_PLACE, 0, len(places) // _PLACE.size, len(text), 255, b"", text.encode("ascii", "replace"))
+    raw[_HEAD.size:_HEAD.size + len(places)] = places
+    count = _library.gs1_conflicts(raw, found, _MOST_CONFLICTS)
+    return [_conflict(listed.elements, *_CONFLICT.unpack_from(found, _CONFLICT.size * at)) for at in range(count)]
 
 
-def doubts(elements: Iterable[Element]) -> List[Doubt]:
-    """Codes of countries and currencies that are in no list, and the first digits of 401 if they are no GS1 Company
-    Prefix. Nothing is refused for this, since these lists change.
+def _conflict(elements: Tuple[Element, ...], kind: int, element: int, other: int, text: bytes) -> Conflict:
+    return Conflict(get_args(ConflictKind)[kind - 1], elements[element], elements[other] if other < 255 else None, text.rstrip(b"\0").decode("ascii"))
 
-        >>> [str(it) for it in doubts([Element("422", "281")])]
-        ['422: 281 is no country']
-    """
-    return _values.doubts((element.ai, element.value) for element in elements)
+
+def _told_of(elements: Sequence[Element]) -> Tuple[str, bytes]:
+    """The text of elements, and where they stand in it."""
+    ends = list(accumulate(len(element.ai + element.value) for element in elements))
+    if len(elements) > _MOST_ELEMENTS or sum(ends[-1:]) > _MOST_TEXT:
+        raise Refusal(11, "TooLong")
+    starts = [0, *ends]
+    places = (_PLACE.pack(start, start + len(element.ai), end, *[0] * 12) for element, start, end in zip(elements, starts, ends))
+    return "".join(element.ai + element.value for element in elements), b"".join(places)
 
 
 class LabelSymbol(NamedTuple):

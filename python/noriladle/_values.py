@@ -3,7 +3,7 @@ from __future__ import annotations
 
 from decimal import Decimal
 from functools import lru_cache
-from typing import Dict, Iterable, Iterator, List, NamedTuple, Optional, Sequence, Tuple
+from typing import Dict, List, NamedTuple, Optional, Tuple
 
 from ._ais import COUNTRIES, CURRENCIES, ROWS
 
@@ -13,7 +13,6 @@ class Row(NamedTuple):
 
     predefined: bool
     title: str
-    associations: str
 
 
 class Place(NamedTuple):
@@ -23,44 +22,16 @@ class Place(NamedTuple):
     longitude: Decimal
 
 
-class Association(NamedTuple):
-    """What the standard asks of the elements beside this one, and is not so."""
-
-    ai: str
-    """The Application Identifier of the element."""
-    needs: Tuple[str, ...]
-    """It needs one of these; ``n`` stands for any digit. None if it excludes one."""
-    excludes: str
-    """It excludes this one, which is present. Empty if it needs one."""
-
-    def __str__(self) -> str:
-        return f"{self.ai} excludes {self.excludes}" if self.excludes else f"{self.ai} needs {' or '.join(self.needs)}"
-
-
-class Doubt(NamedTuple):
-    """A code of an element that is in no list."""
-
-    ai: str
-    """The Application Identifier of the element."""
-    code: str
-    """What is in no list."""
-    said: str
-    """What it should be, such as ``country``."""
-
-    def __str__(self) -> str:
-        return f"{self.ai}: {self.code} is no {self.said}"
-
-
 @lru_cache(maxsize=None)
 def rows() -> Dict[str, Row]:
     """The table, by its Application Identifiers."""
     table = {}
-    for least, greatest, predefined, title, associations in ROWS:
+    for least, greatest, predefined, title in ROWS:
         for ai in range(int(least), int(greatest) + 1):
             name = f"{ai:0{len(least)}d}"
             # Of AIs from one to another each digit lies between those of the two.
             if all(low <= digit <= high for low, digit, high in zip(least, name, greatest)):
-                table[name] = Row(predefined, title, associations)
+                table[name] = Row(predefined, title)
     return table
 
 
@@ -146,46 +117,3 @@ def needs_separator(ai: str) -> bool:
     """Whether a separator follows this element if another comes after it."""
     row = rows().get(ai)
     return row is None or not row.predefined
-
-
-def _is_like(ai: str, pattern: str) -> bool:
-    return len(ai) == len(pattern) and all(want in ("n", digit) for digit, want in zip(ai, pattern))
-
-
-def _broken(ai: str, rule: str, others: Sequence[str]) -> Iterator[Association]:
-    """What a rule of an Application Identifier asks and is not so."""
-    kind, _, patterns = rule.partition("=")
-    if kind == "req":
-        if not any(_is_like(other, pattern) for other in others for pattern in patterns.split(",")):
-            yield Association(ai, tuple(patterns.split(",")), "")
-    else:
-        for other in others:
-            if any(_is_like(other, pattern) for pattern in patterns.split(",")):
-                yield Association(ai, (), other)
-
-
-def associations(ais: Iterable[str]) -> List[Association]:
-    """What the standard asks of a list and is not so."""
-    listed = list(dict.fromkeys(ais))
-    return [
-        it
-        for ai in listed
-        for rule in (rows()[ai].associations.split() if ai in rows() else ())
-        for it in _broken(ai, rule, [other for other in listed if other != ai])
-    ]
-
-
-def doubts(elements: Iterable[Tuple[str, str]]) -> List[Doubt]:
-    """Codes that are in no list."""
-    told: List[Doubt] = []
-    known = set(_letters(COUNTRIES, 2).values())
-    for ai, value in elements:
-        for code in country_codes(ai, value):
-            # 999 stands for several countries, of a processor alone.
-            if not (code in known or _country(code) or (code == "999" and ai[:3] == "703")):
-                told.append(Doubt(ai, code, "country"))
-        if ai[:3] in ("391", "393") and len(ai) == 4 and currency(ai, value) is None:
-            told.append(Doubt(ai, value[:3], "currency"))
-        if ai == "401" and not (len(value) >= 4 and value[:4].isdecimal()):
-            told.append(Doubt(ai, value[:4], "GS1 Company Prefix"))
-    return told

@@ -5,7 +5,7 @@ from decimal import Decimal
 
 import pytest
 
-from noriladle import Answer, Element, Refusal, associations, compose, doubts, draw_label, parse_elements, read_elements, read_scan
+from noriladle import Answer, Element, Refusal, compose, conflicts, draw_label, parse_elements, read_elements, read_scan
 
 YEAR = 2026
 
@@ -154,18 +154,32 @@ def test_what_stands_before_a_fault_of_a_scan(text, ais, ai):
     (["99", "99"], []),
     (["04"], []),
 ])
-def test_associations(ais, told):
-    assert [str(it) for it in associations(Element(ai, "1") for ai in ais)] == told
+def test_what_elements_ask_of_others(ais, told):
+    assert [str(it) for it in conflicts(Element(ai, "1") for ai in ais)] == told
 
 
 @pytest.mark.parametrize("ai, value, told", [
     ("422", "276", []), ("422", "281", ["422: 281 is no country"]), ("423", "276281", ["423: 281 is no country"]),
     ("4307", "DE", []), ("4307", "ZZ", ["4307: ZZ is no country"]), ("7030", "999A", []), ("7030", "281A", ["7030: 281 is no country"]),
     ("3912", "9781", []), ("3912", "0011", ["3912: 001 is no currency"]), ("401", "9521A", []), ("401", "A1", ["401: A1 is no GS1 Company Prefix"]),
-    ("01", "09501101530003", []),
+    ("01", "09501101530003", []), ("99", "281", []),
 ])
-def test_doubts(ai, value, told):
-    assert [str(it) for it in doubts([Element(ai, value)])] == told
+def test_codes_in_no_list(ai, value, told):
+    assert [str(it) for it in conflicts([Element(ai, value)]) if it.kind != "needs"] == told
+
+
+def test_conflicts_of_an_answer():
+    answer = read_scan("]C1" "17261231" "0109501101530003" "17271231" "17261231" "10" + "A" * 20, YEAR)
+    found = conflicts(answer)
+    assert [str(it) for it in found] == ["17: 261231 and 271231 differ", "17: 271231 and 261231 differ"]
+    assert [(it.kind, it.element, it.other, it.text) for it in found] == [
+        ("differs", answer.elements[2], answer.elements[0], ""), ("differs", answer.elements[3], answer.elements[2], "")]
+    assert conflicts(answer.elements) == found and conflicts([]) == [] and conflicts(Answer(None, ())) == []
+    assert conflicts([Element("02", "1")]) == [("needs", Element("02", "1"), None, "37")]
+    for long in ([Element("10", "A")] * 49, [Element("10", "A" * 95)] * 2):
+        with pytest.raises(Refusal) as raised:
+            conflicts(long)
+        assert raised.value.name == "TooLong"
 
 
 def test_the_year_is_this_year_unless_one_is_given():

@@ -7,7 +7,7 @@ import test from "node:test";
 import { fileURLToPath } from "node:url";
 import { inspect } from "node:util";
 import { gzipSync } from "node:zlib";
-import { associations, doubts, load, Refusal, VERSION } from "noriladle";
+import { load, Refusal, VERSION } from "noriladle";
 import { load as loadTexts } from "noriladle/texts";
 
 const gs1 = await load();
@@ -149,11 +149,15 @@ test("element strings of elements", () => {
 });
 
 test("what is asked of elements that stand together", () => {
-  const texts = (found) => found.map(({ text }) => text);
-  assert.deepEqual(texts(associations([{ ai: "02" }])), ["02 needs 37"]);
-  assert.deepEqual(texts(associations([{ ai: "01" }, { ai: "37" }])), ["01 excludes 37", "37 needs 02 or 8026"]);
-  assert.deepEqual(texts(doubts([{ ai: "422", value: "281" }, { ai: "3932", value: "000195" }, { ai: "401", value: "AB" }, { ai: "7030", value: "999A" }])),
+  const texts = (elements) => gs1.conflicts(elements).map(({ text }) => text);
+  assert.deepEqual(texts([{ ai: "02", value: "1" }]), ["02 needs 37"]);
+  assert.deepEqual(texts([{ ai: "01", value: "1" }, { ai: "37", value: "1" }]), ["01 excludes 37", "37 needs 02 or 8026"]);
+  assert.deepEqual(texts([{ ai: "422", value: "281" }, { ai: "3932", value: "000195" }, { ai: "401", value: "AB" }, { ai: "7030", value: "999A" }, { ai: "01", value: "1" }, { ai: "30", value: "1" }]),
     ["422: 281 is no country", "3932: 000 is no currency", "401: AB is no GS1 Company Prefix"]);
+  const answer = gs1.readScan("]C1172612310109501101530003" + "17271231", 2026), [found, ...others] = gs1.conflicts(answer);
+  assert.deepEqual([found.kind, found.element, found.other, found.code, found.text, others], ["differs", answer.elements[2], answer.elements[0], "", "17: 261231 and 271231 differ", []]);
+  assert.deepEqual([gs1.conflicts([]), gs1.conflicts(gs1.readScan("9501101530003", 2026))], [[], []]);
+  for (const long of [Array(49).fill({ ai: "10", value: "A" }), Array(2).fill({ ai: "10", value: "A".repeat(95) })]) assert.throws(() => gs1.conflicts(long), { number: 11 });
 });
 
 test("the symbol of a label in modules", () => {

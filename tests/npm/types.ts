@@ -1,5 +1,5 @@
 // What the types let a caller write, and what they refuse.
-import { associations, doubts, load, Refusal, type Answer, type Gs1Element, type Gs1Symbols, type LabelSymbol, type SymbolKind } from "noriladle";
+import { load, Refusal, type Answer, type Gs1Element, type Gs1Symbols, type LabelSymbol, type SymbolKind } from "noriladle";
 import { BarcodeDetector, type DetectedBarcode } from "noriladle/detector";
 import { Reader } from "noriladle/reader";
 import { load as loadTexts, type TextAnswer } from "noriladle/texts";
@@ -15,7 +15,7 @@ const image: Uint8Array = gs1.drawLabel("ean13", "9501101530003", { year: 2026, 
 const symbol: LabelSymbol = gs1.labelSymbol("upce", "00012345000065", 2026);
 const corners: readonly { x: number; y: number }[] = gs1.readPicture({ width: 1, height: 1, data: new Uint8ClampedArray(4) }, 2026, { level: 99 })[0]?.corners ?? [];
 const text: string = gs1.compose([["01", "09501101530003"], { ai: "10", value: "AB" }]);
-const told: string[] = [...associations(answer), ...doubts(answer)].map((it) => it.text);
+const told: string[] = gs1.conflicts(answer).map((it) => it.text);
 export const number: number | undefined = ((error: unknown) => (error instanceof Refusal ? error.number + error.before.length : undefined))(undefined);
 const pictured: Gs1Symbols = gs1.readPicture({ width: 1, height: 1, data: new Uint8ClampedArray(4) }, 2026);
 export const why: readonly string[] = pictured.reason?.fixes ?? [pictured.reason?.remedy ?? String(pictured.dropped)];

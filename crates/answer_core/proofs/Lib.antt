@@ -1,4 +1,5 @@
 -- Lemmas of this crate.
+pub mod Adding
 pub mod Formats
 pub mod PutFacts
 pub mod ShortPlaces

@@ -106,14 +106,14 @@ fn signs_of(form: Form) -> Signs
 
 /// The first of some elements, and the places of the others.
 #[derive(Clone, Copy)]
-struct Split<'a> {
-    ai: &'a [u8],
-    value: &'a [u8],
-    rest: &'a [Place],
+pub(crate) struct Split<'a> {
+    pub(crate) ai: &'a [u8],
+    pub(crate) value: &'a [u8],
+    pub(crate) rest: &'a [Place],
 }
 
 /// The element at the first of some places, if there is one.
-fn split_first<'a>(text: &'a [u8], places: &'a [Place]) -> Option<Split<'a>>
+pub(crate) fn split_first<'a>(text: &'a [u8], places: &'a [Place]) -> Option<Split<'a>>
     ensures elements { MatchOption result (places.now ≡ []) (λ s. map (entry_at text.now) places.now
         ≡ record { ai = s.ai.now; value = s.value.now } ∷ map (entry_at text.now) s.rest.now) }
     ensures shorter { IfSome result (λ s. length s.rest.now + 1 ≡ length places.now) }

@@ -2,11 +2,15 @@
 #![tactic(auto)]
 
 mod answer;
+mod association;
 mod buffer;
+mod code;
+mod conflict;
 mod data;
 mod format;
 mod gtin;
 mod laws;
+mod listed;
 mod named;
 mod number;
 mod place;
@@ -16,6 +20,7 @@ mod symbol;
 
 pub use answer::Answer;
 pub use buffer::{put, put_words};
+pub use conflict::{Conflict, ConflictKind};
 pub use laws::{
     answers_tell_one, lines_tell, message_lines, refused_lines, row_lines, string_lines,
 };

@@ -3,7 +3,9 @@
 //!
 //! A year that is no reference year is error 42 (`Words`). What stands behind the text and the elements of an answer is not
 //! written.
-ghost use Rattle.std.specs.Prelude.{◌≡◌};
+ghost use Rattle.std.specs.Prelude.{◌≡◌, ◌++◌, drop, length, min, take};
+ghost use Rattle.answer_core.specs.Conflicts.{conflicts};
+ghost use Rattle.answer_core.specs.Formats.{entries_in};
 ghost use Rattle.answer_core.specs.Reads.{IsDataAnswer, IsGtinAnswer, IsMessageAnswer, IsStringAnswer};
 ghost use Rattle.answer_core.specs.Rows.{IsDotsAnswer, IsWidthsAnswer};
 ghost use Rattle.digits_core.specs.Buffers.{IsPut};
@@ -11,7 +13,7 @@ ghost use Rattle.gs1_c.specs.Values.{IsAnsweredBy, form_numbered, line_by};
 
 use crate::buffer::put_refused;
 use crate::terms::terms_of;
-use answer_core::Answer;
+use answer_core::{Answer, Conflict};
 use digits_core::RefusalKind;
 use element_core::Form;
 
@@ -115,4 +117,15 @@ pub extern "C" fn gs1_c_format(answer: &Answer, form: u32, out: &mut [u8]) -> us
         Some(form) => answer.put_line(form, out),
         None => put_refused(RefusalKind::Kind, out),
     }
+}
+
+/// Writes the conflicts of an answer's elements, in the order of the elements, as many as there is room for, and returns how many it
+/// wrote: an element that needs another, excludes one that is there or has another value than one before it, and codes that are in no
+/// list (GS1 General Specifications, section 4.13). It takes any bytes as an answer.
+#[unsafe(no_mangle)]
+pub extern "C" fn gs1_c_conflicts(answer: &Answer, out: &mut [Conflict]) -> usize
+    ensures count { result ≡ min (length (conflicts (entries_in answer.now))) (length out.old) }
+    ensures front { out.new ≡ take (length out.old) (conflicts (entries_in answer.now)) ++ drop (length (conflicts (entries_in answer.now))) out.old }
+{
+    answer.conflicts(out)
 }

@@ -7,6 +7,9 @@ tabs between. The last line is a sum, and the status is 1 if a line is refused. 
 that are clearly meant in place of ="4012345010008", 4.012345010008E+12, EAN: 4012345010008, an ISBN of ten digits, or a
 number without its zeros in front.
 
+A warning behind a line names elements that the standard does not let stand together, and codes of no country or
+currency. --strict refuses such a line.
+
   $ noriladle check supplier.csv
   $ noriladle check supplier.csv --fix -o fixed.csv
 """
@@ -18,7 +21,7 @@ import sys
 from pathlib import Path
 from typing import Any, Dict, Iterator, NamedTuple, Optional, Tuple
 
-from .. import Ais, Answer, Refusal
+from .. import Ais, Answer, Conflict, Refusal, conflicts
 from .._columns import Table, table_of
 from .._lists import Faults, Record
 from .._advice import remedy_of
@@ -36,6 +39,8 @@ def add_arguments(parser: argparse.ArgumentParser) -> None:
                         help="Write the list with its numbers corrected, as far as it is clear what they are")
     parser.add_argument("-o", "--output", metavar="FILE", help="File of the corrected list, or - for standard output")
     parser.add_argument("--refused", action="store_true", help="Print only the lines that are refused")
+    parser.add_argument("--strict", action="store_true",
+                        help="Refuse what is a warning otherwise")
     parser.add_argument("--json", action="store_true", help="Print a JSON object for each line")
     add_year(parser)
     add_ais(parser)
@@ -53,6 +58,8 @@ class Checked(NamedTuple):
     """Each text that may be meant."""
     article: str = ""
     """The article's name, if the list has one."""
+    found: Tuple[Conflict, ...] = ()
+    """What the answer's elements say against each other: a warning, unless --strict refuses it."""
 
 
 def run(words: argparse.Namespace) -> int:
@@ -74,9 +81,11 @@ def run(words: argparse.Namespace) -> int:
     for checked in checked_lines(table, words.year, words.ais):
         if not sys.stdout.isatty():
             progress(told("checking", count_text(checked.line)))
-        count, refused = count + 1, refused + (not checked.answer)
-        if not (checked.answer and words.refused):
-            sys.stdout.write(f"{json.dumps(_data(checked), ensure_ascii=False) if words.json else _row(checked)}\n")
+        is_refused = not checked.answer or words.strict and bool(checked.found)
+        count, refused = count + 1, refused + is_refused
+        if is_refused or not words.refused:
+            row = json.dumps(_data(checked), ensure_ascii=False) if words.json else _row(checked, "refused" if is_refused else "warning")
+            sys.stdout.write(f"{row}\n")
     progress.end()
     sys.stdout.flush()
     if count:
@@ -133,18 +142,20 @@ def _checked(line: int, text: str, is_string: bool, year: int, ais: Ais) -> Chec
     except Refusal as refusal:
         return Checked(line, text, None, refusal, refusal.remedy, refusal.fixes)
     try:
-        return Checked(line, text, read_text(text, year, ais))
+        answer = read_text(text, year, ais)
+        return Checked(line, text, answer, found=tuple(conflicts(answer)))
     except Refusal as refusal:
         advice = remedy_of(text, refusal, year, ais)
         return Checked(line, text, None, refusal, str(advice), advice.fixes)
 
 
-def _row(checked: Checked) -> str:
-    """The cells of a line, with tabs between."""
+def _row(checked: Checked, found: str) -> str:
+    """The cells of a line, with tabs between, and this word before what is found in an answer."""
     text = " ".join(checked.text.replace("\x1d", "^").split())
     if checked.answer:
         identifier = checked.answer.identifier
-        return f"{checked.line}\t{text}\t{f'{identifier} ' if identifier else ''}{checked.answer.text}"
+        said = f"\t{found}: {'; '.join(map(str, checked.found))}" if checked.found else ""
+        return f"{checked.line}\t{text}\t{f'{identifier} ' if identifier else ''}{checked.answer.text}{said}"
     article = f"\t{checked.article}" if checked.article else ""
     return f"{checked.line}\t{text}\t{checked.refusal}\t{checked.remedy}{article}"
 
@@ -158,7 +169,7 @@ def _named(checked: Checked) -> str:
 def _data(checked: Checked) -> Dict[str, Any]:
     data: Dict[str, Any] = {"line": checked.line, "text": checked.text, **({"article": checked.article} if checked.article else {})}
     if checked.answer:
-        return {**data, **data_of(checked.answer)}
+        return {**data, **data_of(checked.answer), **({"conflicts": [str(it) for it in checked.found]} if checked.found else {})}
     refusal = checked.refusal
     assert refusal, "what is not read is refused"
     return {**data, "refused": refusal.number, "name": refusal.name, "place": refusal.place, "remedy": checked.remedy, "fixes": list(checked.fixes)}

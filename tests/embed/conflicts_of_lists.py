@@ -1,0 +1,144 @@
+"""Compares the conflicts that the library finds in random lists of elements with a plain model of the rules, which reads tables/ais.tsv and
+tables/codes.tsv by itself:
+
+    python3 tests/embed/conflicts_of_lists.py LIBRARY COUNT
+
+A list has up to six elements of any AIs, some of them twice, with values that need not be right: the library looks at AIs and codes alone. The
+last line is the counts.
+"""
+import ctypes
+import itertools
+import pathlib
+import random
+import struct
+import sys
+
+TABLES = pathlib.Path(__file__).resolve().parents[2] / "tables"
+KINDS = ("", "needs", "excludes", "differs", "country", "currency", "prefix")
+
+
+def ais_of(span):
+    least, _, greatest = span.partition("-")
+    digits = (range(int(a), int(z) + 1) for a, z in zip(least, greatest or least))
+    return ["".join(map(str, ai)) for ai in itertools.product(*digits)]
+
+
+def tables():
+    """The associations of each AI, and the numbers and letters of countries and the numbers of currencies."""
+    rows = [line.split("\t") for line in (TABLES / "ais.tsv").read_text("utf-8").splitlines()[1:]]
+    codes = [line.split("\t") for line in (TABLES / "codes.tsv").read_text("utf-8").splitlines()[1:]]
+    associations = {ai: [] if row[3] == "-" else row[3].split() for row in rows for ai in ais_of(row[0])}
+    countries = {number: letters for kind, number, letters in codes if kind == "country"}
+    return associations, set(countries), set(countries.values()), {number for kind, number, _ in codes if kind == "currency"}
+
+
+ASSOCIATIONS, COUNTRIES, LETTERS, CURRENCIES = tables()
+
+
+def is_like(ai, pattern):
+    return len(ai) == len(pattern) and all(want in ("n", digit) for digit, want in zip(ai, pattern))
+
+
+def asked(at, elements):
+    """What the AI of an element asks of the others."""
+    ai = elements[at][0]
+    if any(other == ai for other, _ in elements[:at]):
+        return
+    for rule in ASSOCIATIONS.get(ai, []):
+        kind, _, patterns = rule.partition("=")
+        like = [i for i, (other, _) in enumerate(elements) if other != ai and any(is_like(other, it) for it in patterns.split(","))]
+        if kind == "req" and not like:
+            yield at, "needs", 255, patterns
+        if kind == "ex" and like:
+            yield at, "excludes", like[0], ""
+
+
+def code_of(ai, value):
+    """The first code of a value that is in no list, and what it should be."""
+    if ai in ("423", "425"):
+        codes = [value[at:at + 3] for at in range(0, len(value), 3)]
+    else:
+        codes = [value[:3]] if ai in ("421", "422", "424", "426") or len(ai) == 4 and ai.startswith("703") else []
+    for code in codes:
+        if code not in COUNTRIES and not (code == "999" and ai.startswith("703")):
+            return "country", code
+    if ai in ("4307", "4317") and value not in LETTERS:
+        return "country", value
+    if len(ai) == 4 and ai[:3] in ("391", "393") and value[:3] not in CURRENCIES:
+        return "currency", value[:3]
+    if ai == "401" and not (len(value) >= 4 and value[:4].isdecimal()):
+        return "prefix", value[:4]
+    return None
+
+
+def model(elements):
+    found = []
+    for at, (ai, value) in enumerate(elements):
+        found += asked(at, elements)
+        before = [i for i, (other, said) in enumerate(elements[:at]) if other == ai and said != value]
+        if before:
+            found.append((at, "differs", before[0], ""))
+        code = code_of(ai, value)
+        if code:
+            found.append((at, code[0], 255, code[1]))
+    return found
+
+
+def library_answer(library, elements):
+    text, places = "", b""
+    for ai, value in elements:
+        places += struct.pack("<3B15x", len(text), len(text + ai), len(text + ai + value))
+        text += ai + value
+    raw = struct.pack("<2H4B4s192s", 0, 65535, 0, len(elements), len(text), 255, b"", text.encode("ascii")) + places.ljust(864, b"\xa5")
+    out = ctypes.create_string_buffer(b"\xa5" * 48 * 60, 48 * 60)
+    count = library.gs1_conflicts(raw, out, 60)
+    told = [struct.unpack_from("<3B45s", out, 48 * i) for i in range(count)]
+    assert out.raw[48 * count:] == b"\xa5" * 48 * (60 - count), "what stands behind is not written"
+    return [(at, KINDS[kind], other, words.rstrip(b"\0").decode("ascii")) for kind, at, other, words in told]
+
+
+def lists(chance):
+    ais = list(ASSOCIATIONS)
+    codes = [*COUNTRIES, *CURRENCIES, "000", "999", "281"]
+    asking = [ai for ai in ais if ASSOCIATIONS[ai]]
+    coded = ["421", "422", "423", "424", "425", "426", "4307", "4317", "7030", "7039", "3910", "3932", "401"]
+    while True:
+        elements = []
+        for _ in range(chance.randrange(1, 7)):
+            ai = chance.choice([chance.choice(ais), chance.choice(asking), chance.choice(coded), chance.choice(["01", "02", "37", "00"]), chance.choice(elements or [("01", "")])[0]])
+            if ai in ("4307", "4317"):
+                value = chance.choice([chance.choice(list(LETTERS)), "ZZ", "de"])
+            elif ai in coded:
+                value = "".join(chance.choice(codes) for _ in range(chance.choice([1, 1, 2, 3] if ai in ("423", "425") else [1])))
+                value = chance.choice([value, "A1", "9521A"]) if ai == "401" else value
+            else:
+                value = chance.choice(["1", "2", "12", "n,n"])
+            elements.append((ai, value))
+        yield elements
+
+
+def in_order(found):
+    """Rules of one element may stand in any order."""
+    return sorted(found)
+
+
+def main(path, count):
+    library = ctypes.CDLL(path)
+    library.gs1_conflicts.restype = ctypes.c_size_t
+    library.gs1_conflicts.argtypes = [ctypes.c_char_p, ctypes.c_char_p, ctypes.c_size_t]
+    kinds, wrong, told = dict.fromkeys(KINDS[1:], 0), 0, 0
+    for elements in itertools.islice(lists(random.Random(7)), count):
+        wanted, got = model(elements), library_answer(library, elements)
+        told += len(wanted)
+        for it in wanted:
+            kinds[it[1]] += 1
+        if in_order(got) != in_order(wanted) or [it[0] for it in got] != sorted(it[0] for it in got):
+            wrong += 1
+            print(f"{elements}: {got}, not {wanted}", file=sys.stderr)
+    assert all(kinds.values()), kinds
+    print(f"{count} lists, {told} conflicts ({', '.join(f'{n} {kind}' for kind, n in kinds.items())}), {wrong} wrong")
+    return 1 if wrong else 0
+
+
+if __name__ == "__main__":
+    sys.exit(main(sys.argv[1], int(sys.argv[2])))
