@@ -60,6 +60,7 @@ class Keyboard:
     def _event(self, kind: int, code: int, value: int) -> str:
         if kind == SYNCHRONIZE and code == DROPPED:
             self._held.clear()
+            self._number = ""
             return LOST
         return self._key(code, value) if kind == KEY else ""
 

@@ -136,6 +136,7 @@ class Link:
 
     def _connect(self) -> None:
         found = socket.socket(socket.AF_UNIX)
+        found.setblocking(False)  # A gateway that was stopped lets nobody in.
         try:
             found.connect(self._path)
         except OSError as fault:
@@ -143,7 +144,6 @@ class Link:
             self._again = now() + _BETWEEN
             self._tell(f"{self._path}: {fault.strerror}")
             return
-        found.setblocking(False)
         self.socket, self._in, self._out, self._between = found, b"", b"", _BETWEEN
         self._write(f"scan {self._lane}{f' 2 {self._series}' if self._form == 2 else ''}\n".encode())
 

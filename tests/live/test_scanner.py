@@ -5,6 +5,7 @@ import re
 import stat
 import subprocess
 import sys
+import termios
 import time
 from contextlib import contextmanager
 from pathlib import Path
@@ -15,6 +16,7 @@ from gateway_and_scanners import NORILADLE, Scanner, Serial
 from noriladle._keys import EVENT, KEYS, Keyboard, events_of
 from noriladle.commands.scanner import _checked, _typed, digits_of
 from program_and_rows import noise
+from test_gateway import Notified
 
 LIMIT = 180
 TEXTS = [
@@ -105,6 +107,26 @@ def test_a_serial_line(end):
         assert scanner.ended() == ("", f"{scanner.device}: unplugged\n", 0)
 
 
+def test_the_rate_of_a_serial_line():
+    with Serial("--baud", "115200") as scanner:
+        until = time.monotonic() + 20
+        while termios.tcgetattr(scanner.its)[4:6] != [termios.B115200] * 2:
+            assert time.monotonic() < until
+
+
+def test_systemd_is_told_of_a_scanner(tmp_path, monkeypatch):
+    """When it is ready, that it lives, though nothing is scanned, and that it stops."""
+    systemd = Notified(tmp_path)
+    monkeypatch.setenv("NOTIFY_SOCKET", systemd.path)
+    monkeypatch.setenv("WATCHDOG_USEC", "600000")
+    with Serial() as scanner:
+        assert [systemd.next() for _ in range(5)] == ["READY=1", *["WATCHDOG=1"] * 4]
+        scanner.process.terminate()
+        while (said := systemd.next()) != "STOPPING=1":
+            assert said == "WATCHDOG=1"
+        assert scanner.ended() == ("", "", 0)
+
+
 def test_several_texts_at_once():
     with Serial() as scanner:
         scanner.send(b"\r\n\r]E496385074\r\r]E496385074\n\r\n", size=100)
@@ -169,13 +191,13 @@ def key(code, value):
     return EVENT.pack(0, 0, 4, 4, code) + EVENT.pack(0, 0, 1, code, value) + EVENT.pack(0, 0, 0, 0, 0)
 
 
-def strokes(text):
+def strokes(text, shift_key=42, control_key=29):
     """The events of a keyboard that types a text, held keys among them; the separator as Ctrl-]."""
     codes = {char: (code, shift) for code, both in KEYS.items() if code < 71 and code != 15 for shift, char in enumerate(both)}
     out = b""
     for char in text:
         code, shifted = (27, False) if char == "\x1d" else codes[char]
-        held = 29 if char == "\x1d" else 42 if shifted and char not in " \r" else None
+        held = control_key if char == "\x1d" else shift_key if shifted and char not in " \r" else None
         out += key(held, 1) if held else b""
         out += key(code, 1) + key(code, 2) + key(code, 0)
         out += key(held, 0) if held else b""
@@ -190,12 +212,15 @@ def test_a_keyboard(tmp_path):
             assert scanner.line() == f"{number} {wanted}\n"
         pipe.write(strokes("]C110AB") + key(66, 1) + key(66, 0) + strokes("21C\r"))
         assert scanner.line() == f"{len(texts)} ]C1 (10)AB(21)C\n"
+        # By the right Shift and Ctrl.
+        pipe.write(strokes("]C110AB\x1d21C\r", 54, 97))
+        assert scanner.line() == f"{len(texts) + 1} ]C1 (10)AB(21)C\n"
         # Half an event, and its rest.
         sent = strokes("]E496385074\r")
         pipe.write(sent[:1001])
         time.sleep(0.1)
         pipe.write(sent[1001:])
-        assert scanner.line() == f"{len(texts) + 1} ]E4 (01)00000096385074\n"
+        assert scanner.line() == f"{len(texts) + 2} ]E4 (01)00000096385074\n"
         pipe.write(strokes("]E496385074"))
         pipe.close()
         assert scanner.ended() == ("", f"{tmp_path}/event: unplugged\n", 0)
@@ -232,6 +257,10 @@ def test_keys_that_were_lost(tmp_path):
         pipe.write(strokes("]E4963") + EVENT.pack(0, 0, 0, 3, 0) + strokes("74\r]E496385074\r"))
         assert scanner.line() == "0 unread: keys were lost: the machine was too busy\n"
         assert scanner.line() == "1 ]E4 (01)00000096385074\n"
+        # Half the number of a character is lost with them.
+        pipe.write(key(56, 1) + key(79, 1) + key(79, 0) + EVENT.pack(0, 0, 0, 3, 0) + strokes("\r") + by_numbers("]E496385074") + strokes("\r"))
+        assert scanner.line() == "2 unread: keys were lost: the machine was too busy\n"
+        assert scanner.line() == "3 ]E4 (01)00000096385074\n"
 
 
 def test_what_is_typed_is_read_back():

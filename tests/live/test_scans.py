@@ -185,6 +185,19 @@ def test_a_scanner_that_is_plugged_in_again_goes_on_with_the_numbers(gateway):
                 assert scanner.ended()[2] == 0
 
 
+def test_a_scanner_that_is_unplugged_gets_the_answer_to_its_last_scan(gateway):
+    with plug(gateway, "till-1") as scanner:
+        scanner.send(EAN8 + b"\r")
+        assert scanner.line() == f"0 {GUM}\n"
+        os.kill(gateway.hub(), signal.SIGSTOP)
+        scanner.send(EAN8 + b"\r")
+        time.sleep(0.2)
+        scanner.unplug()
+        time.sleep(0.3)
+        os.kill(gateway.hub(), signal.SIGCONT)
+        assert scanner.ended() == (f"1 {GUM}\n", f"{scanner.device}: unplugged\n", 0)
+
+
 def test_two_scanners_on_a_lane(gateway):
     """The first has it; what the second scans is unread, until the first is unplugged."""
     with gateway.watch("till-1") as till, plug(gateway, "till-1") as first:
@@ -214,6 +227,17 @@ def test_no_gateway(tmp_path):
             if scanner.line() == f"1 {GUM}\n":
                 first = till.line()
                 assert first == "2 next\n" or first == "1 next\n" and till.line() == f"1 {GUM}\n"
+
+
+def test_a_gateway_that_lets_nobody_in(tmp_path):
+    """It was stopped, and as many clients wait as may: a scan is unread in its time."""
+    with socket.socket(socket.AF_UNIX) as listening, socket.socket(socket.AF_UNIX) as waiting:
+        listening.bind(str(tmp_path / "hub"))
+        listening.listen(0)
+        waiting.connect(listening.getsockname())
+        with Serial("--gateway", listening.getsockname(), "--lane", "till-1") as scanner:
+            scanner.send(EAN8 + b"\r")
+            assert scanner.line() == f"0 unread: {tmp_path}/hub: Resource temporarily unavailable\n"
 
 
 def test_a_text_is_sent_once(tmp_path):

@@ -12,6 +12,7 @@ import pytest
 
 from gateway_and_scanners import Gateway, Serial, Till
 from network import Network
+from noriladle.commands import scanner as scanner_module
 from program_and_rows import READ, ROOT
 from test_page import MESSAGE, READY, SHOWN, page  # noqa: F401 (page is a fixture)
 
@@ -121,6 +122,17 @@ def test_a_scanner_s_program_that_slept(gateway):
         scanner.send(b"101530003\r", size=100)  # Its first half is old.
         until(till.lines, r"again, please: 4 unread: the program of the scanner slept while the text came")
         assert len(till.lines) == 5, till.lines
+
+
+def test_half_a_text_from_before_a_sleep(monkeypatch):
+    """It may have no end: then the next text is as new as it is."""
+    clock = [100.0]
+    monkeypatch.setattr(scanner_module, "now", lambda: clock[0])
+    texts = scanner_module.Texts()
+    assert texts.take(b"]E09501", is_old=True) == [] and not texts.is_endless()
+    clock[0] += 3
+    assert texts.is_endless() and texts.take(EAN + b"\r") == [(EAN, False)]
+    assert texts.take(EAN + b"\r]E0", is_old=True) == [(EAN, True)] and texts.take(EAN[3:] + b"\r" + EAN + b"\r") == [(EAN, True), (EAN, False)]
 
 
 def test_a_scanner_without_a_gateway_that_slept(tmp_path):

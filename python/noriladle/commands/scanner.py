@@ -130,7 +130,7 @@ class Texts:
         """Whether the rest has waited too long for its end. Then it is dropped."""
         if not self.rest or now() < self.since + ENDLESS:
             return False
-        self.rest = b""
+        self.rest, self._is_old = b"", False
         return True
 
 
