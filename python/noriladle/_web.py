@@ -3,6 +3,7 @@ from __future__ import annotations
 
 import argparse
 import asyncio
+import contextlib
 import functools
 import re
 import socket
@@ -16,6 +17,7 @@ from ._scans import Listener, ScanLane
 from .commands import WrongWords
 
 try:
+    from websockets.exceptions import ConnectionClosed
     from websockets.legacy.server import WebSocketServerProtocol, serve as serve_pages
 except ImportError as missing:
     raise WrongWords("--web needs websockets: apt-get install python3-websockets") from missing
@@ -48,7 +50,7 @@ async def serve(gateway: Gateway, port: int, words: argparse.Namespace) -> Any:
             lane = gateway.scans.lane(name)
         except (Closed, ValueError) as fault:
             # The page can show it: a browser does not give it what the handshake says.
-            await page.close(1008, str(fault)[:120])
+            await _close(page, str(fault))
             return
         gateway.pages.add(client)
         try:
@@ -62,6 +64,12 @@ async def serve(gateway: Gateway, port: int, words: argparse.Namespace) -> Any:
     its.listen(256)  # More may wait than come in at once.
     server.refused = 0
     return server
+
+
+async def _close(page: Any, why: str) -> None:
+    """Closes a page, which may have gone, with a reason of at most 123 bytes."""
+    with contextlib.suppress(ConnectionClosed):
+        await page.close(1008, why.encode()[:120].decode("utf-8", "ignore"))
 
 
 class _Counted(WebSocketServerProtocol):  # type: ignore[misc]
@@ -145,4 +153,4 @@ class _Page:
             for task in (self._gone, sending):
                 task.cancel()
             await asyncio.gather(self._gone, sending, return_exceptions=True)
-            await self._page.close(1008, self._why)
+            await _close(self._page, self._why)

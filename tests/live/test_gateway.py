@@ -1,4 +1,5 @@
 """The gateway with the real program, and clients over TCP and a UNIX socket. Needs socat and pgrep."""
+import asyncio
 import json
 import os
 import signal
@@ -12,7 +13,7 @@ import urllib.request
 import pytest
 
 from gateway_and_scanners import NORILADLE, ROW, Client, Gateway
-from noriladle._service import watchdog
+from noriladle._service import keep_alive, watchdog
 from program_and_rows import READ, noise, random_lanes
 
 LIMIT = 180
@@ -229,6 +230,9 @@ def test_lanes_are_kept_for_the_unix_socket(tmp_path):
         for client in clients:
             client.__exit__()
         gateway.free_lane().__exit__()
+    # TCP has one of them at least.
+    with Gateway(tmp_path, "--lanes", "2", "--kept", "4") as gateway:
+        gateway.free_lane().__exit__()
 
 
 def test_silent_connections_take_no_lane(gateway):
@@ -321,12 +325,15 @@ def test_log(tmp_path):
         scanner.send(b"0\nbad\n")
         assert till.line() == "0 next\n"
         assert scanner.line() == "closed: a scan is a number, a blank and a text\n"
+        with gateway.unix_client() as scanner, gateway.unix_client() as other:
+            assert scanner.ask(b"scan till-1\n") == "0 next\n"
+            assert other.ask(b"scan till-1\n") == "closed: lane till-1 has a scanner\n"
     gateway.process.terminate()
     lines = [json.loads(line) for line in gateway.process.communicate(timeout=20)[1].splitlines()]
     assert all(line["kind"] == "note" and line["time"].startswith("20") and line["peer"].startswith("pid-") for line in lines)
     told = [(line["what"], line.get("lane"), line.get("why")) for line in lines]
     assert {("till", "till-1", None), ("scanner", "till-1", None), ("closed", None, "a scan is a number, a blank and a text")} <= set(told)
-    assert told.count(("a second scanner was refused", "till-1", None)) == 1  # Its program tries again each second.
+    assert told.count(("a second scanner was refused", "till-1", None)) == 2  # Once beside each scanner: its program tries again each second.
 
 
 @pytest.mark.parametrize("text, wanted", [
@@ -439,12 +446,51 @@ def test_it_stops_when_told(tmp_path, number):
                 os.kill(hub, 0)
 
 
+def test_it_stops_beside_a_hub_that_is_stopped(tmp_path):
+    """Within the ten seconds after which systemd would kill it; its clients are told first."""
+    with Gateway(tmp_path) as gateway, gateway.free_lane() as client:
+        hub, begin = gateway.hub(), time.monotonic()
+        os.kill(hub, signal.SIGSTOP)
+        client.send(ROW)
+        time.sleep(0.3)
+        gateway.process.terminate()
+        assert client.line() == "closed: the gateway stops\n" and time.monotonic() - begin < 4
+        assert gateway.process.wait(20) == 0 and time.monotonic() - begin < 10
+        with pytest.raises(ProcessLookupError):
+            os.kill(hub, 0)
+
+
 def test_the_watchdog_of_another_process(monkeypatch):
     """Its time is none of this one's."""
     monkeypatch.setenv("WATCHDOG_USEC", "600000")
     for pid, wanted in ((os.getpid(), 0.6), (1, None)):
         monkeypatch.setenv("WATCHDOG_PID", str(pid))
         assert watchdog() == wanted
+
+
+def test_signs_of_life(monkeypatch):
+    """Three in the time that systemd gives the service; its socket may have a name without a file."""
+    name, asked, slept = f"noriladle-{os.getpid()}", [], []
+
+    async def sleep(seconds):
+        slept.append(seconds)
+        monkeypatch.delenv("NOTIFY_SOCKET")
+        raise asyncio.CancelledError
+
+    async def is_well():
+        asked.append(1)
+
+    monkeypatch.setenv("WATCHDOG_USEC", "30000000")
+    monkeypatch.setenv("NOTIFY_SOCKET", f"@{name}")
+    with socket.socket(socket.AF_UNIX, socket.SOCK_DGRAM) as systemd:
+        systemd.bind(f"\0{name}")
+        systemd.settimeout(5)
+        with monkeypatch.context() as its:
+            its.setattr(asyncio, "sleep", sleep)
+            with pytest.raises(asyncio.CancelledError):
+                asyncio.run(keep_alive(is_well))
+        assert systemd.recv(100) == b"WATCHDOG=1"
+    assert asked == [1] and slept == [10]
 
 
 @pytest.mark.parametrize("has_row", [True, False])

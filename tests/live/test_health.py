@@ -103,7 +103,8 @@ def test_names_and_format(gateway):
     text = page(gateway, "/metrics")[1]
     ran = subprocess.run(["promtool", "check", "metrics"], input=text, capture_output=True, text=True)
     assert (ran.returncode, ran.stdout + ran.stderr) == (0, "")
-    assert all(re.match("(noriladle|process)_", line) for line in text.splitlines() if not line.startswith("#"))
+    names = {re.match("(noriladle|process)_", line)[1] for line in text.splitlines() if not line.startswith("#")}
+    assert names == {"noriladle", "process"}
 
 
 @pytest.mark.parametrize("host, status", [

@@ -52,7 +52,7 @@ def test_what_is_in_it(tmp_path):
         assert [other.line(), other.line()] == ["0 next\n", "5 unread: unplugged\n"]
         for _ in range(2):  # The numbers of rows begin anew in each connection.
             with gateway.connect() as rows:
-                assert rows.ask(ROW) == f"0 {READ}\n" and rows.ask(b"9501101530003\n") == "- - (01)09501101530003\n"
+                assert rows.ask(ROW) == f"0 {READ}\n" and rows.ask(b"9501101530003\r\n") == "- - (01)09501101530003\n"
         said, counts, status = check(folder)
         lines = [line.split("\t") for line in said.splitlines()]
         assert [line[1:] for line in lines] == [
@@ -324,11 +324,15 @@ def test_files_have_their_limit_whatever_comes_together(tmp_path):
 @pytest.mark.parametrize("what, wanted", [
     ("change an answer", r"scans-\d+.tsv:3: this record was changed, or one before it is missing"),
     ("change an answer and its sum", r"scans-\d+.tsv:4: this record was changed, or one before it is missing"),
+    ("change a number and its sum", r"scans-\d+.tsv:5: this record was changed, or one before it is missing"),
     ("take a record out", r"scans-\d+.tsv:3: this record was changed, or one before it is missing"),
     ("swap two", r"scans-\d+.tsv:3: this record was changed, or one before it is missing"),
     ("take a file out", r"scans-\d+.tsv:1: it does not go on where scans-\d+.tsv ends: a file was taken away or changed"),
     ("cut the end of a file", r"scans-\d+.tsv:1: it does not go on where scans-\d+.tsv ends: a file was taken away or changed"),
     ("change the beginning", r"scans-\d+.tsv:1: this is no beginning of a file of the journal"),
+    ("rename a file", r"scans-0+7.tsv:1: this is no beginning of a file of the journal"),
+    ("add a file without a record", r"scans-0+7.tsv:1: it does not go on where scans-0+5.tsv ends: a file was taken away or changed"),
+    ("change two files", r"10 records in 3 files, 2 faults\n"),
 ])
 def test_a_journal_that_was_changed(tmp_path, what, wanted):
     folder = tmp_path / "journal"
@@ -343,6 +347,9 @@ def test_a_journal_that_was_changed(tmp_path, what, wanted):
     elif what == "change an answer and its sum":
         changed = lines[2].rpartition("\t")[0].replace("(01)09501101530003", "(01)09501101530010")
         lines[2] = f"{changed}\t{journal_module._sum(changed, lines[1].rstrip().rpartition(chr(9))[2])}\n"
+    elif what == "change a number and its sum":
+        changed = lines[4].rpartition("\t")[0].replace("8\t", "9\t", 1)
+        lines[4] = f"{changed}\t{journal_module._sum(changed, lines[3].rstrip().rpartition(chr(9))[2])}\n"
     elif what == "take a record out":
         del lines[2]
     elif what == "swap two":
@@ -351,9 +358,17 @@ def test_a_journal_that_was_changed(tmp_path, what, wanted):
         del lines[-1]
     elif what == "change the beginning":
         lines[0] = lines[0].replace("journal 1", "journal 2")
+    elif what == "change two files":
+        third.write_text(third.read_text().replace("\t3\t", "\t4\t"))
+        lines[4] = lines[4].replace("\t3\t", "\t4\t")
     second.write_text("".join(lines))
+    seventh = folder / "scans-000000000000007.tsv"
     if what == "take a file out":
         second.unlink()
+    elif what == "rename a file":
+        second.rename(seventh)
+    elif what == "add a file without a record":
+        seventh.write_text(f"{journal_module.FORM}\t7\t{'0' * 16}\n")
     _, said, status = check(folder, "--check")
     assert status == 1 and re.search(wanted, said), said
     # A gateway goes on behind it.
@@ -414,6 +429,15 @@ def test_a_second_gateway_on_one_journal(tmp_path):
     with Gateway(tmp_path, "--journal", str(folder), port=False):
         ran = subprocess.run([*NORILADLE, "gateway", "--unix", str(tmp_path / "other"), "--journal", str(folder)], capture_output=True, text=True, timeout=20)
     assert (ran.returncode, ran.stderr) == (2, f"noriladle: another gateway has the journal {folder}; give each its own\n")
+
+
+def test_the_lock_of_a_journal_follows_no_link(tmp_path):
+    folder = tmp_path / "journal"
+    folder.mkdir()
+    (folder / "lock").symlink_to(tmp_path / "target")
+    ran = subprocess.run([*NORILADLE, "gateway", "--unix", str(tmp_path / "hub"), "--journal", folder], capture_output=True, text=True, timeout=20)
+    assert (ran.returncode, ran.stderr) == (2, f"noriladle: --journal {folder}: Too many levels of symbolic links\n")
+    assert not (tmp_path / "target").exists()
 
 
 @pytest.mark.parametrize("words, wanted", [
@@ -493,8 +517,10 @@ def test_an_answer_waits_for_the_disk_and_shares_its_write(tmp_path, monkeypatch
         assert (await put(journal, [500]))[0][1] == "the journal cannot be written: Input/output error"
         disk.refuses = False
         assert (await put(journal, [501]))[0][1] == "" and disk.folders == 2
+        writes = disk.count
         journal.put(Scan(time.time(), "till-1", "0" * 8, "502", EAN, READ))
         journal.close()
+        assert disk.count == writes + 1
         found = Check(tmp_path / "journal")
         records = list(found)
         assert [record.scan for record in records if record.lane != "-"] == [*map(str, range(500)), "501", "502"]
@@ -502,6 +528,27 @@ def test_an_answer_waits_for_the_disk_and_shares_its_write(tmp_path, monkeypatch
         assert not found.faults and len(found.files) == 2
 
     asyncio.run(asyncio.wait_for(test(), 30))
+
+
+def test_a_record_that_stays_though_it_was_refused(tmp_path, monkeypatch):
+    """The disk fails, and the file cannot be cut: the next one begins before that record, and the check says that it was not sent."""
+    def no_cut(*_):
+        raise OSError(5, "Input/output error")
+
+    async def test():
+        disk = Disk(monkeypatch)
+        monkeypatch.setattr(journal_module.os, "ftruncate", no_cut)
+        journal = Journal(str(tmp_path / "journal"), 1 << 30, False, Log(), Metrics())
+        for number in range(3):
+            disk.refuses = number == 1
+            assert bool((await put(journal, [number]))[0][1]) == disk.refuses
+        journal.close()
+
+    asyncio.run(asyncio.wait_for(test(), 30))
+    first, _ = sorted((tmp_path / "journal").glob("scans-*.tsv"))
+    said, counts, status = check(tmp_path / "journal")
+    assert [line.split("\t")[2] for line in said.splitlines()] == ["0", "1", "-", "2"] and status == 0
+    assert counts == f"{first}: its last 1 records were not sent\n4 records in 2 files, 0 faults\n"
 
 
 def test_rows_that_come_together_are_written_together(tmp_path, monkeypatch):

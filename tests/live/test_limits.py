@@ -3,6 +3,7 @@ import asyncio
 import contextlib
 import itertools
 import os
+import resource
 import signal
 import socket
 import statistics
@@ -16,8 +17,10 @@ import websockets
 
 from gateway_and_scanners import NORILADLE, ROW, Client, Gateway, Serial
 from noriladle import _gateway
-from noriladle._door import who
-from noriladle._gateway import CUT, PAUSE
+from noriladle._door import Door, Places, who
+from noriladle._gateway import CUT, LINES, PAUSE
+from noriladle._log import Log
+from noriladle._scans import Listener, ScanLane
 from program_and_rows import READ
 from test_gateway import page
 from test_rights import Authority, open_folder, rights  # noqa: F401 (open_folder is a fixture)
@@ -80,6 +83,18 @@ def test_pages_are_counted(tmp_path):
         asyncio.run(asyncio.wait_for(test(gateway.ports["web"]), 30))
 
 
+@pytest.mark.limit(60)
+def test_a_page_that_answers_nothing(tmp_path):
+    """Its browser was stopped: within 20 seconds it is a till no more."""
+    with Gateway(tmp_path, "--web", "0", "--metrics", "0", port=False) as gateway, Client(("127.0.0.1", gateway.ports["web"])) as client:
+        client.send(HANDSHAKE)
+        gateway.waits_for(tills=1)
+        until = time.monotonic() + 30
+        while gateway.numbers()["noriladle_tills"] != "0":
+            assert time.monotonic() < until
+            time.sleep(0.5)
+
+
 HOLD = """
 import socket, sys, time
 held = []
@@ -110,6 +125,23 @@ def test_a_user_who_takes_all(open_folder):  # noqa: F811
         os.chmod(gateway.unix, 0o666)
         with hold(gateway, 60, "", user=4711):
             scans(gateway, "till-1")
+
+
+@pytest.mark.skipif(os.geteuid() != 0, reason="only root connects as other users")
+def test_spare_places_of_all_users(open_folder):  # noqa: F811
+    """Four users may hold eight each, and a fifth has none."""
+    with Gateway(open_folder, "--connections", "8", "--each", "8", port=False) as gateway, contextlib.ExitStack() as stack:
+        os.chmod(gateway.unix, 0o666)
+        time.sleep(0.5)
+        for _ in range(8):
+            stack.enter_context(gateway.watch("till-1"))
+        for user in range(4711, 4716):
+            os.seteuid(user)
+            try:
+                its = [stack.enter_context(gateway.unix_client()) for _ in range(8)][0]
+            finally:
+                os.seteuid(0)
+        assert its.line() == "closed: there are 8 connections\n"
 
 
 def test_scanners_have_a_place_when_there_is_no_other(tmp_path):
@@ -183,6 +215,25 @@ def test_limits_change_at_work(tmp_path):
             assert late.line() == "closed: address 127.0.0.1 has 3 connections\n"
 
 
+def test_each_place_has_its_descriptors(tmp_path):
+    """Whatever limit the gateway was started with; also places that a reload makes."""
+    file, (soft, hard) = tmp_path / "gateway.toml", resource.getrlimit(resource.RLIMIT_NOFILE)
+    file.write_text("connections = 300\n")
+    resource.setrlimit(resource.RLIMIT_NOFILE, (256, hard))
+    try:
+        gateway = Gateway(tmp_path, "--config", str(file), port=False)
+    finally:
+        resource.setrlimit(resource.RLIMIT_NOFILE, (soft, hard))
+    with gateway:
+        assert resource.prlimit(gateway.process.pid, resource.RLIMIT_NOFILE) == (1_112, hard)
+        file.write_text("connections = 600\n")
+        gateway.process.send_signal(signal.SIGHUP)
+        until = time.monotonic() + 20
+        while resource.prlimit(gateway.process.pid, resource.RLIMIT_NOFILE) != (1_712, hard):
+            assert time.monotonic() < until
+            time.sleep(0.02)
+
+
 @pytest.mark.parametrize("host, more, wanted", [
     ("0.0.0.0", [], "it needs TLS (--cert and --key) and a table of rights, or --ca"),
     ("::", [], "it needs TLS (--cert and --key) and a table of rights, or --ca"),
@@ -210,6 +261,18 @@ def test_a_port_for_other_machines(tmp_path, host, more, wanted):
     finally:
         process.terminate()
         process.communicate(timeout=20)
+
+
+def test_a_reload_opens_no_port_to_everyone(tmp_path):
+    """It refuses the table that a start would."""
+    key, file = Authority(tmp_path, "shop").issue("gateway")
+    words = rights(tmp_path, '"user 0" = "rows"')
+    gateway = Gateway(tmp_path, "--host", "0.0.0.0", "--key", str(key), "--cert", str(file), *words)
+    rights(tmp_path, '"anyone" = "rows, scan *, watch *"')
+    gateway.process.send_signal(signal.SIGHUP)
+    assert gateway.process.stderr.readline().endswith(" other machines reach 0.0.0.0: it needs a table of rights, or --ca; with --anyone it goes without\n")
+    with gateway, gateway.unix_client() as client:
+        assert client.ask(b"watch till-1\n") == "closed: no right to watch till-1\n"
 
 
 @pytest.mark.parametrize("address, whose", [
@@ -353,12 +416,30 @@ def test_more_lanes_than_there_are(tmp_path):
             assert [till.line(), till.line()] == ["0 next\n", f"0 {READ}\n"]
 
 
-def test_programs_share_the_rows_under_way(tmp_path, monkeypatch):
-    """However many there are, the hub has few rows of theirs, so a scan waits for few. This hub takes all and answers nothing."""
+@pytest.fixture
+def taken(tmp_path, monkeypatch):
+    """What a hub gets that takes all and answers nothing."""
     taken, hub = tmp_path / "taken", tmp_path / "gs1_hub"
     hub.write_text(f"#!/bin/sh\nexec cat > {taken}\n")
     hub.chmod(0o755)
     monkeypatch.setenv("GS1_HUB", str(hub))
+    return taken
+
+
+def test_a_lane_has_few_scans_under_way(tmp_path, taken):
+    """A scan of another lane waits for these alone. Each two seconds they are unread, and others have their turn."""
+    with Gateway(tmp_path, port=False) as gateway, gateway.unix_client() as client:
+        assert client.ask(b"scan till-1\n") == "0 next\n"
+        begin = time.monotonic()
+        client.send(b"0\n" + b"".join(b"%d ]E496385074\n" % number for number in range(5_000)))
+        for _ in range(64):
+            assert client.line().endswith("unread: no answer in 2 seconds\n")
+        count = taken.read_bytes().count(b"]E496385074\n")
+        assert 64 <= count <= 64 * (1 + (time.monotonic() - begin) // 2)
+
+
+def test_programs_share_the_rows_under_way(tmp_path, taken):
+    """However many there are, the hub has few rows of theirs, so a scan waits for few."""
     with Gateway(tmp_path) as gateway, contextlib.ExitStack() as programs:
         wanted, until = 0, time.monotonic() + 20
         for count in range(1, 17):
@@ -414,6 +495,59 @@ def test_twenty_endless_lines_take_turns(monkeypatch):
         assert len(tasks) == 20 < count <= took / 0.05 + 21
 
     asyncio.run(test())
+
+
+def test_numbers_without_a_scan_leave_others_their_turn():
+    """A scanner that sends 10,000 numbers of a next scan at once: the loop runs others all the while."""
+    async def test():
+        its, ends, turns = object.__new__(_gateway.Scanner), asyncio.Event(), itertools.count()
+        its._lane, its._listener = ScanLane("till-1", None), Listener(lambda line: None)
+
+        async def other():
+            while not ends.is_set():
+                next(turns)
+                await asyncio.sleep(0)
+
+        beside = asyncio.ensure_future(other())
+        await its.take([b"0"] * 10_000)
+        ends.set()
+        await beside
+        assert next(turns) >= 10_000 // LINES
+
+    asyncio.run(test())
+
+
+def test_clients_that_wait_come_in_by_fours():
+    """Others have their turn between."""
+    async def serve(place, reader, writer):
+        await asyncio.sleep(60)
+
+    async def test():
+        listening, places = socket.create_server(("127.0.0.1", 0), backlog=64), Places(100, 100)
+        clients = [socket.create_connection(listening.getsockname()) for _ in range(40)]
+        door = Door(listening, places, serve, Log(), lambda: None)
+        most = before = 0
+        while before < len(clients):
+            await asyncio.sleep(0)
+            most, before = max(most, places.taken - before), places.taken
+        door.close()
+        assert most <= 4
+
+    asyncio.run(asyncio.wait_for(test(), 30))
+
+
+def test_a_till_that_takes_nothing_has_no_place(tmp_path):
+    """It does not take the reason why it is closed, either."""
+    with Gateway(tmp_path, "--idle", "1", "--metrics", "0", port=False) as gateway, gateway.watch("till-1"), gateway.unix_client() as scanner:
+        assert scanner.ask(b"scan till-1\n") == "0 next\n"
+        gateway.waits_for(tills=1)
+        scanner.send(b"0\n")
+        numbers = itertools.count()
+        while gateway.numbers()["noriladle_tills"] != "0":
+            some = [next(numbers) for _ in range(1_000)]
+            scanner.send(b"".join(b"%d %s\n" % (number, EAN) for number in some))
+            assert [scanner.line() for _ in some] == [f"{number} {READ}\n" for number in some]
+        gateway.waits_for(connections=1)
 
 
 def flood(path, count):

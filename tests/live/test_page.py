@@ -1,8 +1,13 @@
 """A till that is a web page, in headless Chromium, with a simulated scanner. Needs chromium and python3-websockets."""
+import argparse
 import asyncio
 import functools
 import http.server
+import json
 import os
+import re
+import signal
+import socket
 import sys
 import threading
 import time
@@ -10,7 +15,12 @@ import time
 import pytest
 import websockets
 
-from gateway_and_scanners import Gateway, Serial
+from gateway_and_scanners import ROW, Gateway, Serial
+from noriladle import _gateway, _web
+from noriladle._door import Places
+from noriladle._health import Metrics
+from noriladle._log import Log
+from noriladle.live import Hub
 from program_and_rows import ROOT
 
 sys.path.insert(0, str(ROOT / "tests/page"))
@@ -113,24 +123,72 @@ def test_pages_of_a_named_origin_may_watch(tmp_path):
         assert told(gateway, "/till-1", origin="https://tills.example") == 403
 
 
+def test_what_a_reload_changes(tmp_path):
+    """Whose pages may watch, how many lanes are kept, and what is logged."""
+    file = tmp_path / "gateway.toml"
+    file.write_text('lanes = 3\nkept = 1\norigin = ["https://one.example", "https://two.example"]\n')
+    gateway = Gateway(tmp_path, "--web", "0", "--kept", "4", "--config", str(file))
+    assert [told(gateway, "/till-1", origin=f"https://{name}.example") for name in ("one", "two", "three")] == ["it waits", "it waits", 403]
+    with gateway.free_lane(), gateway.free_lane(), gateway.connect() as late:
+        assert late.ask(ROW) == "closed: all 2 lanes for TCP are taken\n"
+    file.write_text('lanes = 3\nkept = 2\norigin = ["https://three.example"]\nlog = "all"\njson = true\n')
+    gateway.process.send_signal(signal.SIGHUP)
+    assert json.loads(gateway.process.stderr.readline())["what"] == "loaded"
+    assert [told(gateway, "/till-1", origin=f"https://{name}.example") for name in ("one", "two", "three")] == [403, 403, "it waits"]
+    with gateway.free_lane(), gateway.connect() as late:
+        assert late.ask(ROW) == "closed: all 1 lanes for TCP are taken\n"
+    gateway.process.terminate()
+    gateway.process.communicate(timeout=20)
+
+
+def test_the_form_of_a_page(gateway):
+    """It has the time if the page says form=2, and no other word."""
+    assert re.fullmatch(r"- \d+\.\d{3} next -", told(gateway, "/till-1?form=2"))
+    assert [told(gateway, f"/till-1{words}") for words in ("", "?form=1", "?form=3", "?form=2&form=2")] == ["it waits"] * 4
+
+
+def test_a_page_that_has_gone_is_forgotten():
+    async def test():
+        async with Hub(1, 1, 2026) as hub:
+            gateway = _gateway.Gateway(hub, 60, 0, Places(10, 10), Log(), Metrics())
+            server = await _web.serve(gateway, 0, argparse.Namespace(origin=[]))
+            address = f"ws://127.0.0.1:{server.sockets[0].getsockname()[1]}/till-1?form=2"
+            for _ in range(3):
+                async with websockets.connect(address) as page:
+                    assert "next" in await page.recv() and len(gateway.pages) == 1
+                while gateway.pages:
+                    await asyncio.sleep(0.01)
+            server.close()
+            await server.wait_closed()
+
+    asyncio.run(asyncio.wait_for(test(), 30))
+
+
 @pytest.mark.parametrize("path", ["/", "/../hub", "/a%20b", "/" + "x" * 65])
 def test_no_name_of_a_lane(gateway, path):
     assert told(gateway, path) == "a lane's name has up to 64 letters, digits and . _ : -"
 
 
-def test_a_page_that_takes_nothing_holds_up_no_other(gateway):
-    async def test():
-        slow = await websockets.connect(f"ws://127.0.0.1:{gateway.ports['web']}/till-1", max_queue=1)
+def test_a_page_that_takes_nothing_holds_up_no_other(tmp_path):
+    """And is no till any more, once the buffers of its socket are full."""
+    async def test(gateway):
+        small = socket.socket()
+        small.setsockopt(socket.SOL_SOCKET, socket.SO_RCVBUF, 4_096)
+        small.connect(("127.0.0.1", gateway.ports["web"]))
+        slow = await websockets.connect(f"ws://127.0.0.1:{gateway.ports['web']}/till-1", sock=small, max_queue=1)
         quick = await websockets.connect(f"ws://127.0.0.1:{gateway.ports['web']}/till-1")
         reader, writer = await asyncio.open_unix_connection(gateway.unix)
         writer.write(b"scan till-1\n0\n")
         assert await reader.readline() == b"0 next\n" and await quick.recv() == "0 next"
-        for begin in range(0, 30_000, 100):
-            writer.write(b"".join(b"%d ]E496385074\n" % number for number in range(begin, begin + 100)))
+        for begin in range(0, 20_000, 100):
+            writer.write(b"".join(b"%d\t%s\n" % (number, b"x" * 200) for number in range(begin, begin + 100)))
             for number in range(begin, begin + 100):
-                assert await quick.recv() == f"{number} ]E4 (01)00000096385074"
+                assert await quick.recv() == f"{number} unread: {'x' * 200}"
                 await reader.readline()
+        assert gateway.numbers()["noriladle_tills"] == "1"
         for end in (slow, quick):
             end.transport.abort()
         writer.close()
-    asyncio.run(asyncio.wait_for(test(), 60))
+
+    with Gateway(tmp_path, "--web", "0", "--metrics", "0", port=False) as gateway:
+        asyncio.run(asyncio.wait_for(test(gateway), 60))

@@ -159,6 +159,7 @@ def test_pages(tmp_path):
             assert asyncio.run(told("/till-1")) == "no right to watch till-1"
             assert asyncio.run(told(f"/till-2?token={token}")) == "no right to watch till-2"
             assert asyncio.run(told("/till-1?token=x")) == "this token has no rights"
+            assert asyncio.run(told(f"/{'%E2%82%AC' * 60}")) == f"no right to watch {'€' * 34}"
             assert asyncio.run(taken_back()) == "no right to watch till-1"
 
 
@@ -199,6 +200,12 @@ def speaks(gateway, authority, client=None, is_old=False):
     return it
 
 
+def serial(gateway, *client):
+    """The number of the certificate that a client gets."""
+    with speaks(gateway, *client) as its:
+        return its.socket.getpeercert()["serialNumber"]
+
+
 @pytest.fixture
 def authority(tmp_path):
     return Authority(tmp_path, "shop")
@@ -234,14 +241,11 @@ def test_a_certificate_is_renewed(tmp_path, authority):
     options = tmp_path / "gateway.toml"
     options.write_text(f'key = "{key}"\ncert = "{file}"\n')
     with Gateway(tmp_path, "--config", str(options)) as gateway, speaks(gateway, authority) as client:
-        first = client.socket.getpeercert()["serialNumber"]
+        first = serial(gateway, authority)
         authority.issue("gateway")
         gateway.process.send_signal(signal.SIGHUP)
         until = time.monotonic() + 10
-        while True:
-            with speaks(gateway, authority) as other:
-                if other.socket.getpeercert()["serialNumber"] != first:
-                    break
+        while serial(gateway, authority) == first:
             assert time.monotonic() < until
         assert client.ask(ROW) == f"0 {READ}\n"
 
@@ -252,6 +256,7 @@ def test_certificates_of_clients(tmp_path, authority):
     till, another = authority.issue("till-1"), authority.issue("till-2")
     words = ["--key", str(key), "--cert", str(file), "--ca", str(authority.file)]
     with Gateway(tmp_path, *words, *rights(tmp_path, '"certificate till-1" = "scan till-1"')) as gateway:
+        first = serial(gateway, authority, till)
         with speaks(gateway, authority, till) as client:
             assert client.ask(b"scan till-1\n") == NEXT
         with speaks(gateway, authority, another) as client:
@@ -261,6 +266,15 @@ def test_certificates_of_clients(tmp_path, authority):
             with pytest.raises(OSError), speaks(gateway, authority, its) as client:
                 assert client.ask(b"scan till-1\n") == ""
                 raise OSError("closed without a word")
+        # A renewed certificate asks for theirs too.
+        authority.issue("gateway")
+        gateway.process.send_signal(signal.SIGHUP)
+        until = time.monotonic() + 10
+        while serial(gateway, authority, till) == first:
+            assert time.monotonic() < until
+        with pytest.raises(OSError), speaks(gateway, authority) as client:
+            assert client.ask(b"scan till-1\n") == ""
+            raise OSError("closed without a word")
 
 
 @pytest.mark.limit(40)
@@ -276,6 +290,25 @@ def test_clients_that_never_begin_tls(tmp_path, authority):
             assert client.lines.read() == b""
             client.__exit__()
         assert time.monotonic() - begin < 15
+
+
+def test_handshakes_that_fail_keep_no_place(tmp_path, authority):
+    """And who has no place over TLS gets no line, which would be no TLS."""
+    key, file = authority.issue("gateway")
+    with Gateway(tmp_path, "--key", str(key), "--cert", str(file), "--each", "4", "--metrics", "0") as gateway:
+        for _ in range(8):
+            with gateway.connect() as client:
+                client.send(b"no handshake\n")
+                assert b"closed" not in client.lines.read()
+            gateway.waits_for(connections=0)
+        held = [gateway.connect() for _ in range(4)]
+        with gateway.connect() as late:
+            assert late.lines.read() == b""
+        for client in held:
+            client.__exit__()
+        gateway.waits_for(connections=0)
+        with speaks(gateway, authority) as client:
+            assert client.ask(ROW) == f"0 {READ}\n"
 
 
 @pytest.mark.parametrize("words, wanted", [

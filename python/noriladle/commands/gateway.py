@@ -311,9 +311,9 @@ async def _load_again(gateway: Gateway, words: argparse.Namespace, given: Set[st
     Returns whether nothing was refused."""
     faults: List[str] = []
     try:
-        for name, value in words.load_again().items():
-            if name in given:
-                continue
+        found = {name: value for name, value in words.load_again().items() if name not in given}
+        _refuse_anyone(argparse.Namespace(**{**vars(words), "rights": found.get("rights", words.rights)}))
+        for name, value in found.items():
             if name in _AT_WORK:
                 setattr(words, name, value)
             elif getattr(words, name) != value:
@@ -322,6 +322,7 @@ async def _load_again(gateway: Gateway, words: argparse.Namespace, given: Set[st
         faults.append(str(fault))
     gateway.idle, gateway.kept = words.idle, _kept(words)
     gateway.places.most, gateway.places.each = words.connections, words.each
+    _raise_limit(2 * words.connections + 512)
     gateway.change_rights(words.rights)
     gateway.log.all, gateway.log.json = words.log == "all", words.json
     if words.tls:
