@@ -372,7 +372,7 @@ async def behind(record):
                 nonlocal longest
                 await asyncio.sleep(2)
                 record.longest()
-                while not record.has_enough:
+                while not record.has_enough or not longest:
                     await asyncio.sleep(record.random.uniform(1, 3))
                     old, new = sentinel.master, one + two - sentinel.master
                     ask(new, "REPLICAOF", "127.0.0.1", 1)
@@ -389,7 +389,7 @@ async def behind(record):
                     nodes[old] = await asyncio.to_thread(start, old, "--replicaof", "127.0.0.1", str(new))
                     while not await asyncio.to_thread(follows, old):
                         await asyncio.sleep(0.1)
-                longest = max(longest, record.longest())
+                    longest = max(longest, record.longest())
 
             await record.at_work([record.till(shop, lane) for lane in lanes(20)], harm())
             await shop.close()
@@ -488,7 +488,9 @@ async def hung_over_tls(record):
 
 
 async def clocks(record):
-    """The clock of the node steps, by up to an hour, while workers are killed and put to sleep."""
+    """The clock of the node steps, by up to an hour, while workers are killed and put to sleep. Returns the longest silence after two of them died
+    for good, and the clock stepped back."""
+    longest = 0.0
     with Place() as place:
         port, = free_ports(1)
         environment, step = shifted(place.folder, 0)
@@ -498,6 +500,7 @@ async def clocks(record):
             place.worker(name)
 
         async def harm():
+            nonlocal longest
             while not record.has_enough:
                 await asyncio.sleep(record.random.uniform(0.3, 1))
                 await record.goes_on()
@@ -511,9 +514,20 @@ async def clocks(record):
                     asyncio.get_running_loop().call_later(record.random.uniform(1, 6), process.send_signal, signal.SIGCONT)
                 else:
                     step(record.random.choice([0, 3600, -3600, -30, 30]))
+            for process in place.workers.values():
+                process.send_signal(signal.SIGCONT)
+            step(7200)
+            await asyncio.sleep(3)
+            record.longest()
+            for name in names[1:]:
+                place.kill(name)
+            step(0)
+            await asyncio.sleep(12)
+            longest = record.longest()
 
         await record.at_work([record.till(shop, lane) for lane in lanes(20)], harm())
         await shop.close()
+    return longest
 
 
 async def two_tills(record):

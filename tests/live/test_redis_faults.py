@@ -31,8 +31,8 @@ def most(seconds, busy):
 @pytest.mark.parametrize("scenario", ["killed", "killed_over_tls", "clocks"])
 def test_workers_are_killed_and_sleep(scenario):
     """Redis loses nothing, so no till is told that it has; and none waits until it submits its rows again."""
-    _, record = run(scenario, 60_000)
-    assert (record.lost, record.repeated) == (0, 0)
+    longest, record = run(scenario, 60_000)
+    assert (record.lost, record.repeated) == (0, 0) and (longest or 0) < most(4, 9)
 
 
 @pytest.mark.limit(120)
