@@ -81,14 +81,14 @@ def labelled(name, instance):
     return f'{metric}{{instance="{instance}",{labels or "}"}'
 
 
-def scanning(gateway, stack, lane="till-1", seconds=0.2):
-    """A scanner that scans each fifth of a second."""
+def scanning(gateway, stack, lane="till-1", seconds=0.2, count=1):
+    """A scanner that scans each fifth of a second, this many texts at once."""
     scanner = stack.enter_context(Serial("--gateway", gateway.unix, "--lane", lane))
     ends = threading.Event()
 
     def scan():
         while not ends.wait(seconds):
-            scanner.send(b"]E09501101530003\r", size=100)
+            scanner.send(b"]E09501101530003\r" * count, size=1_000)
             scanner.line(0.01)
 
     thread = threading.Thread(target=scan, daemon=True)
@@ -148,6 +148,11 @@ def second_scanner(gateway, folder, stack):
     scanning(gateway, stack)
     yield
     scanning(gateway, stack)
+
+
+def scanner_floods(gateway, folder, stack):
+    yield
+    scanning(gateway, stack, count=20)
 
 
 def expired(gateway, folder, stack):
@@ -214,6 +219,7 @@ FAULTS = {
     "the gateway is dead": (dead, "NoriladleDown"), "the gateway is stopped": (stopped, "NoriladleDown"), "the hub is stopped": (hub_stopped, "NoriladleNotReady"),
     "scans have no answer": (hub_stopped_while_scanning, "NoriladleUnread"), "rows wait": (rows_wait, "NoriladleSlow"),
     "the scanner is unplugged": (scanner_unplugged, "NoriladleScannerGone"), "two scanners have a lane": (second_scanner, "NoriladleScannersShareALane"),
+    "a scanner floods": (scanner_floods, "NoriladleScannerFloods"),
     "the certificate has expired": (expired, "NoriladleCertificateExpired"), "the certificate ends in ten days": (expired, "NoriladleCertificateExpires"),
     "the certificate and the key are no pair": (mismatched, "NoriladleReloadFailed"), "the option file is wrong": (wrong_options, "NoriladleReloadFailed"),
     "strangers take all places": (strangers, "NoriladleNoPlace"), "all lanes are taken": (all_lanes, "NoriladleLanesAreTaken"),
