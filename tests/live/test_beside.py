@@ -51,12 +51,16 @@ class Lane:
         self.name = name
         gateway, _, _ = struct.unpack("3i", self._till.socket.getsockopt(socket.SOL_SOCKET, socket.SO_PEERCRED, 12))
         hub = int(Path(f"/proc/{gateway}/task/{gateway}/children").read_text().split()[0])
-        self._counts = [Path(f"/proc/{it}/schedstat") for it in (f"{gateway}/task/{gateway}", f"{hub}/task/{hub}", f"self/task/{threading.get_native_id()}")]
+        # A scan goes through the first thread of each, and then through one of its others: a worker of the hub, and the thread of a journal.
+        self._threads = [[Path(f"/proc/self/task/{threading.get_native_id()}")]]
+        for pid in (gateway, hub):
+            first, threads = Path(f"/proc/{pid}/task/{pid}"), Path(f"/proc/{pid}/task").iterdir()
+            self._threads += [[first], [it for it in threads if it != first]]
 
     def _held_up(self):
-        """For how many seconds the gateway, its hub and this thread were ready to run, and did not; and each processor was not there."""
+        """For how many seconds the threads that a scan goes through were ready to run, and did not; and each processor was not there."""
         stolen = [int(line.split()[8]) / TICK for line in Path("/proc/stat").read_text().splitlines() if line.startswith("cpu") and line[3] != " "]
-        return sum(int(it.read_text().split()[1]) / 1e9 for it in self._counts), stolen
+        return [[int((it / "schedstat").read_text().split()[1]) / 1e9 for it in its] for its in self._threads], stolen
 
     def scan(self):
         (ready, stolen), begin = self._held_up(), time.perf_counter()
@@ -64,7 +68,8 @@ class Lane:
         assert self._till.line() == f"{self._number} {READ}\n" == self._scanner.line()
         self.all.append(time.perf_counter() - begin)
         ready_now, stolen_now = self._held_up()
-        self.times.append(max(0.0, self.all[-1] - (ready_now - ready) - max(now - its for now, its in zip(stolen_now, stolen))))
+        waited = [max((now - before for now, before in zip(*its)), default=0.0) for its in zip(ready_now, ready)]
+        self.times.append(max(0.0, self.all[-1] - sum(waited) - max(now - its for now, its in zip(stolen_now, stolen))))
         self._number += 1
 
 
@@ -149,20 +154,31 @@ def come_and_go(path, seconds):
     time.sleep(seconds)
 
 
+def other_program(*words):
+    return subprocess.Popen([sys.executable, *map(str, words)], stdout=subprocess.PIPE)
+
+
+STRANGERS = """
+import contextlib, socket, sys, time
+held = []
+for number in range(1_100):
+    held.append(socket.create_connection(("127.0.0.1", int(sys.argv[1])), 5))
+    with contextlib.suppress(OSError):
+        held[-1].send(sys.argv[2].encode() if number % 2 else b"")
+print("held", flush=True)
+time.sleep(1_000)
+"""
+
+
 def sockets_of(port, said):
-    """1,100 strangers of a port."""
+    """1,100 strangers of a port, in a program of their own: threads of this one hold up each other."""
     def fault(folder, stack):
         gateway = shop(folder, stack, "--web", "0")
         yield gateway.unix
-        for number in range(1_100):
-            its = stack.enter_context(socket.create_connection(("127.0.0.1", gateway.ports[port]), 5))
-            with contextlib.suppress(OSError):
-                its.send(said if number % 2 else b"")
+        its = stack.enter_context(other_program("-c", STRANGERS, gateway.ports[port], said))
+        stack.callback(its.kill)
+        assert its.stdout.readline() == b"held\n"
     return fault
-
-
-def other_program(*words):
-    return subprocess.Popen([sys.executable, *map(str, words)], stdout=subprocess.PIPE)
 
 
 def floods(count):
@@ -297,8 +313,8 @@ def nothing(folder, stack):
 FAULTS = {
     "nothing": nothing, "certificates are renewed wrongly": certificates, "option files are wrong": of_alerts(wrong_options, "--config", "gateway.toml"),
     "a key is of another certificate": of_alerts(mismatched, "--config", "gateway.toml"), "the log's disk is full": a_log_on_a_full_disk,
-    "nobody reads the log": a_log_that_nobody_reads, "1,100 strangers": sockets_of("port", b"1 1"),
-    "1,100 pages": sockets_of("web", HANDSHAKE), "all lanes are taken": of_alerts(all_lanes), "a scanner floods": floods(1), "four scanners flood": floods(4),
+    "nobody reads the log": a_log_that_nobody_reads, "1,100 strangers": sockets_of("port", "1 1"),
+    "1,100 pages": sockets_of("web", HANDSHAKE.decode()), "all lanes are taken": of_alerts(all_lanes), "a scanner floods": floods(1), "four scanners flood": floods(4),
     "a program sends rows": rows(1, ROW.decode()), "twelve programs send rows": rows(12, ROW.decode()), "twelve programs send texts": rows(12, "]E09501101530003\n"),
     "a line has no end": without_a_line_end, "numbers are too large": too_large_numbers, "a scanner sleeps": a_scanner_that_sleeps,
     "a scanner is unplugged": of_alerts(scanner_unplugged), "two scanners have a lane": of_alerts(second_scanner), "tills take nothing": tills_that_take_nothing,
