@@ -35,7 +35,7 @@ async function makeLabels() {
   showQuestion(question);
   showNotes(notes);
   showColumns(columns);
-  const layout = new Layout(articles.filter(({ fault }) => !fault), cell, Number(at("module").value));
+  const layout = new Layout(articles.filter(({ fault }) => !fault), cell, at("look").value, Number(at("module").value));
   if (!await each(articles, (article) => items.push({ ...article, fault: article.fault ?? layout.measure(article) }))) return;
   layout.plan();
   shop.made = { stock, dpi, cell, labels, faults, question, isDone: false };
@@ -213,7 +213,7 @@ function fillModules() {
 }
 
 function changeStock() {
-  memory.set("stock", at("stock").value);
+  for (const id of ["stock", "look"]) memory.set(id, at(id).value);
   at("own").hidden = at("stock").value !== "own";
   shop.page = 0;
   fillModules();
@@ -221,8 +221,8 @@ function changeStock() {
 }
 
 function listenToLabels() {
-  at("stock").addEventListener("change", changeStock);
-  at("dpi").addEventListener("change", changeStock);
+  at("look").value = memory.get("look") || "price";
+  for (const id of ["stock", "look", "dpi"]) at(id).addEventListener("change", changeStock);
   at("own").addEventListener("input", () => { document.made = makeLabels(); });
   for (const id of ["first", "module"]) at(id).addEventListener("input", () => { document.made = makeLabels(); });
   at("back").addEventListener("click", () => { shop.page--; showSheet(); });

@@ -2,7 +2,8 @@
 // and texts in rectangles.
 "use strict";
 
-const LOGISTIC_MM = 0.495, MOST_PARTS = 400;
+// The height that bars below a large price need; the standard asks for more.
+const STRIP_MM = 6, LOGISTIC_MM = 0.495, MOST_PARTS = 400;
 
 // The bytes of the structs of gs1.h.
 const SIZES = {
@@ -21,13 +22,13 @@ function cellOf(stock, dots) {
 // The texts of a label by their numbers in gs1.h: its name, its price and its further lines.
 const fieldsOf = ({ name, price, lines }) => ({ 0: name, 1: price, 7: lines.join("\n") });
 
-// Lays out the labels of a list, with modules of so many dots if somebody asks for that.
+// Lays out the labels of a list in a look, with modules of so many dots if somebody asks for that.
 class Layout {
   // A module of its own, since its memory is used from call to call.
   static module;
 
-  constructor(articles, cell, dots) {
-    const signs = new Set(ALWAYS), { look, article, plan, drawing, row, part, measure } = SIZES;
+  constructor(articles, cell, look, dots) {
+    const signs = new Set(ALWAYS), { look: own, article, plan, drawing, row, part, measure } = SIZES;
     let longest = 0;
     for (const { text, ...its } of articles) {
       const texts = [text, ...Object.values(fieldsOf(its))];
@@ -35,12 +36,13 @@ class Layout {
       longest = Math.max(longest, texts.reduce((sum, told) => sum + told.length, 0));
     }
     this.cell = cell;
+    this.hasStrip = ({ price }) => look === "price" && price !== "";
     this.count = 0;
     this.fonts = [false, true].map((isBold) => fontOf([...signs], isBold));
     const [regular, bold] = this.fonts.map(({ widths }) => widths.byteLength);
     const parts = MOST_PARTS * part, measures = articles.length * measure, texts = 4 * longest + 64;
-    this.take({ look, article, plan, drawing, row, parts, measures, regular, bold, texts });
-    this.lendLook(dots);
+    this.take({ look: own, article, plan, drawing, row, parts, measures, regular, bold, texts });
+    this.lendLook(look === "price", dots);
   }
 
   // Makes room in the memory of the module for such numbers of bytes.
@@ -65,10 +67,10 @@ class Layout {
     this.view.setBigUint64(place + 8, BigInt(count), true);
   }
 
-  lendLook(dots) {
+  lendLook(isPriceFirst, dots) {
     const { cell: { aside, above, width, height, dots: inMm }, view, at } = this;
     [aside, above, inMm, dots / inMm, 0].forEach((length, i) => view.setFloat64(at.look + 8 * i, length, true));
-    [width, height, 0, 0].forEach((number, i) => view.setUint16(at.look + 40 + 2 * i, number, true));
+    [width, height, isPriceFirst, 0].forEach((number, i) => view.setUint16(at.look + 40 + 2 * i, number, true));
     for (const [i, name] of ["regular", "bold"].entries()) {
       const { widths, other, up, down, digits } = this.fonts[i], place = at.look + 48 + SIZES.font * i;
       new Uint16Array(this.memory, at[name], widths.length).set(widths);
@@ -123,7 +125,7 @@ class Layout {
       if ((words[i + 7] & 255) === 2) this.putText(drawing, told[words[i + 4]], box, at.parts + 2 * i);
       else drawing.boxes.push(box);
     }
-    this.warn(drawing, article.kind);
+    this.warn(drawing, article);
     return drawing;
   }
 
@@ -143,11 +145,11 @@ class Layout {
   }
 
   // Warns if the standard asks for other modules or bars than these.
-  warn({ warnings }, kind) {
+  warn({ warnings }, { kind, ...article }) {
     const { view, at: { drawing }, cell: { dots } } = this, length = (at) => view.getUint16(drawing + at, true) / dots;
     const nominal = view.getUint32(drawing + 4, true) / 64 / dots, high = length(14) - length(12), size = length(18);
     const warn = (key, rank, ...values) => warnings.push({ key, values, rank });
-    if (high < nominal - 0.1) warn("low", high / nominal, length1(high), length1(nominal));
+    if (high < (this.hasStrip(article) ? STRIP_MM : nominal) - 0.1) warn("low", high / nominal, length1(high), length1(nominal));
     if (isOfCase(kind) && size < LOGISTIC_MM - 1e-6) warn("narrow", size, length3(size), length3(LOGISTIC_MM));
   }
 
@@ -158,7 +160,7 @@ class Layout {
     if (symbol.refused) return { ...remedyOf(article.text, symbol.refused), refused: symbol.refused };
     if (number === 27) return tooWide(article.kind, symbol, this.cell);
     if (number === 52) return { key: "noModule", values: [0, 2].map((i) => length3(modulesOf(article.kind)[i])) };
-    return { key: SAID_OF_LABELS[number] ?? "misdrawn" };
+    return { key: SAID_OF_LABELS[number] ?? "misdrawn", values: this.hasStrip(article) ? [{ key: "largeBars" }] : [] };
   }
 }
 

@@ -56,8 +56,8 @@ TEXTS: Dict[str, str] = {
         "Breite des schmalsten Strichs [sonst: 0,33; ITF-14 und GS1-128 0,495]",
     "Height of the bars [default: the standard's, if there is room]":
         "Höhe der Striche [sonst: die der Norm, wenn Platz ist]",
-    "What is largest on a label that has a price: bars or price [default: bars]":
-        "Was auf einem Etikett mit Preis am größten ist: bars (Striche) oder price (Preis) [sonst: bars]",
+    "What is largest on a label that has a price: price or bars [default: price]":
+        "Was auf einem Etikett mit Preis am größten ist: price (Preis) oder bars (Striche) [sonst: price]",
     "Draw a bar above and below each ITF-14": "Über und unter jedem ITF-14 einen Balken zeichnen",
     "Turn the labels by 90 degrees on their stock": "Den Inhalt der Etiketten um 90 Grad drehen",
     "Sign to put behind prices without one, such as €": "Zeichen hinter Preisen, die keines haben, etwa €",

@@ -354,15 +354,15 @@ def try_example():
 
 def main():
     for sheet in [
-            ("prices.csv", "L7163", 300, 1, "--look", "price"), ("kinds.csv", "3424", 600, 1, "--look", "price"),
+            ("prices.csv", "L7163", 300, 1, "--look", "bars"), ("kinds.csv", "3424", 600, 1, "--look", "bars"),
             ("prices.csv", "3474", 300, 1), ("prices.csv", "L7160", 300, 1), ("prices.csv", "L7163", 300, 5), ("prices.csv", "L7159", 300, 1),
-            ("prices.csv", "L7162", 300, 1), ("prices.csv", "L7651", 600, 14), ("prices.csv", "5160", 300, 30),
-            ("kinds.csv", "L7163", 300, 1), ("kinds.csv", "3424", 300, 2), ("kinds.csv", "2x10:90x27+5+1@letter", 600, 1),
+            ("prices.csv", "L7162", 300, 1), ("prices.csv", "L7651", 600, 14, "--look", "bars"), ("prices.csv", "5160", 300, 30),
+            ("kinds.csv", "L7163", 300, 1), ("kinds.csv", "3424", 300, 2), ("kinds.csv", "2x10:90x27+5+1@letter", 600, 1, "--look", "bars"),
             ("cases.csv", "3424", 300, 1), ("cases.csv", "3483", 300, 1)]:
         try_sheet(*sheet)
     for roll in [
-            ("prices.csv", "57x32", 203, ("zpl", "epl", "tspl")), ("kinds.csv", "100x50", 203, ("zpl", "tspl"), "--look", "price"),
-            ("prices.csv", "50x25", 300, ("zpl",)), ("prices.csv", "38.1x21.2", 600, ("zpl",)),
+            ("prices.csv", "57x32", 203, ("zpl", "epl", "tspl")), ("kinds.csv", "100x50", 203, ("zpl", "tspl"), "--look", "bars"),
+            ("prices.csv", "50x25", 300, ("zpl",)), ("prices.csv", "38.1x21.2", 600, ("zpl",), "--look", "bars"),
             ("kinds.csv", "100x50", 203, ("zpl", "epl", "tspl")), ("kinds.csv", "99014", 600, ("zpl",)),
             ("cases.csv", "152x102", 203, ("zpl", "epl", "tspl")), ("cases.csv", "152x102", 300, ("zpl",))]:
         try_roll(*roll)

@@ -44,8 +44,8 @@ def add_arguments(parser: argparse.ArgumentParser) -> None:
                         help="Width of the narrowest bar [default: 0.33; ITF-14 and GS1-128 0.495]")
     parser.add_argument("--bars", type=_length, metavar="MM", help="Height of the bars [default: the standard's, if there is room]")
     parser.add_argument("--bearers", action="store_true", help="Draw a bar above and below each ITF-14")
-    parser.add_argument("--look", choices=("bars", "price"), default="bars", metavar="LOOK",
-                        help="What is largest on a label that has a price: bars or price [default: bars]")
+    parser.add_argument("--look", choices=("price", "bars"), default="price", metavar="LOOK",
+                        help="What is largest on a label that has a price: price or bars [default: price]")
     parser.add_argument("--turn", action="store_true", help="Turn the labels by 90 degrees on their stock")
     parser.add_argument("--currency", default="", metavar="SIGN", help="Sign to put behind prices without one, such as €")
     add_list(parser)

@@ -57,8 +57,8 @@ class Look:
     """Whether an ITF-14 has a bar above and one below."""
     turned: bool = False
     """Whether labels are read from the right side of their stock."""
-    is_price_first: bool = False
-    """Whether the price is the largest, and the bars are a strip below it."""
+    is_price_first: bool = True
+    """Whether a price is the largest, and the bars are a strip below it."""
 
     @property
     def dots(self) -> float:

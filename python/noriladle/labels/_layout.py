@@ -15,6 +15,8 @@ from ._drawing import BOX, DOTS_IN_MM, RESOLUTIONS, Cell, Drawing, Look, Text, W
 from ._fonts import Font, Fonts
 
 _LOGISTIC_MM = 0.495
+_STRIP_MM = 6.0
+"""The height that bars below a large price need; the standard asks for more."""
 _UP, _DOWN, _OVERSHOOT = 0.9, 0.22, 0.02
 """How far most letters go up above their base line and down below it, and round digits below it, in sizes."""
 _MOST_PARTS, _ROW = 400, 8192
@@ -63,7 +65,7 @@ class Layout:
     """Lays out the labels of a list."""
 
     def __init__(self, cell: Cell, fonts: Fonts, look: Look, year: int, articles: Sequence[Article]) -> None:
-        self._cell, self._fonts, self._bearers = cell, fonts, look.bearers
+        self._cell, self._fonts, self._bearers, self._is_price_first = cell, fonts, look.bearers, look.is_price_first
         self._year, self._terms = year, _terms(year, "all")
         letters = set("… ").union(*(text for article in articles for text in (*_texts(article), article.answer.text)))
         self._lacking = set(fonts.bold.lacks("".join(letters)))
@@ -110,7 +112,7 @@ class Layout:
         self._put(drawing, item.article, self._parts.raw[:count * _PART.size])
         dots, high = self._cell.dots, (end - top) / self._cell.dots
         wanted = nominal / 64 / dots
-        if high < wanted - 0.1:
+        if high < (_STRIP_MM if self._has_strip(item.article) else wanted) - 0.1:
             lengths = localized(f"{high:.1f}"), localized(f"{wanted:.1f}")
             drawing.warnings.append(Warned("low", lengths, high / wanted))
         if not item.measure.retail and module / dots < _LOGISTIC_MM - 1e-6:
@@ -148,7 +150,12 @@ class Layout:
             raise ValueError(said("noModule", localized(f"{least}"), localized(f"{most}")))
         if fault <= _NO_SYMBOL:
             _symbol(article, self._year)
-        raise ValueError(said(_SAID.get(fault, "misdrawn")))
+        other = f"{said('largeBars')} (--look bars)" if self._has_strip(article) else ""
+        raise ValueError(said(_SAID.get(fault, "misdrawn"), other))
+
+    def _has_strip(self, article: Article) -> bool:
+        """Whether the bars are a strip below a large price."""
+        return self._is_price_first and bool(article.price)
 
 
 def _at(lent: ctypes.Structure) -> object:
