@@ -6,7 +6,7 @@
 /**
  * A price as it is written.
  * @typedef {{ before: string, whole: string, group: string, point: string, fraction: string, dash: string,
- *   after: string,
+ *   after: string, each: string,
  *   currency: string, isBelow: boolean }} Written
  */
 
@@ -58,7 +58,39 @@ class Amounts {
     const isZero = !/[1-9]/.test(full.whole + full.fraction);
     if (isZero && !this.isFree) return { fault: { key: "zeroPrice", values: [short] } };
     const decimals = full.fraction || full.dash ? full.point + (full.fraction || full.dash) : "";
-    return { price: full.before + full.whole + decimals + full.after };
+    return { price: full.before + full.whole + decimals + full.after + full.each };
+  }
+
+  /**
+   * An amount as it is printed; nothing for zero.
+   * @param {string} cell
+   * @returns {{ price: string } | { fault: Told }}
+   */
+  above(cell) {
+    const written = writtenPrice(cell);
+    return written && !/[1-9]/.test(written.whole + written.fraction) ? { price: "" } : this.printed(cell);
+  }
+
+  /**
+   * The price of one of these units, such as 1 kg = 5.80, by a price as it is printed and what it is for.
+   * @param {string} price
+   * @param {string} content
+   * @param {string[]} units
+   * @returns {{ price: string } | { fault: Told }}
+   */
+  ofUnit(price, content, units) {
+    const measure = /[0-9]/.test(content) ? measureOf(content) : undefined, written = writtenPrice(price);
+    const unit = units.find((it) => measureOf(it)?.kind === measure?.kind) ?? "", asked = measureOf(unit);
+    if (!measure?.size || !asked || !written || written.each) {
+      return { fault: { key: "noContent", values: [shortText(content), units.join(", ")] } };
+    }
+    // Whole numbers, since a price is rounded half up: all have a thousand million times their size.
+    const decimals = DECIMALS.get(written.currency) ?? this.decimals, { number, scale } = exactAmount(written);
+    const above = number * asked.size * 10n ** BigInt(decimals), below = measure.size * scale;
+    const digits = String((2n * above + below) / (2n * below)).padStart(decimals + 1, "0"), at = digits.length - decimals;
+    const amount = digits.slice(0, at) + (decimals ? (written.point || this.point || decimalSign()) + digits.slice(at) : "");
+    const named = unit.replace(/^([0-9]*) ?/, (_, count) => `${count || 1} `);
+    return { price: `${named} = ${written.before}${amount}${written.after}` };
   }
 
   /**
@@ -122,6 +154,43 @@ function roundedPrice({ whole, point, fraction }, decimals) {
   return digits.slice(0, at) + (decimals ? point + digits.slice(at) : "");
 }
 
+// Units, each with what it is a measure of and how many of the smallest it has. A unit in a text, perhaps with a number
+// of it; and a measure such as 6 x 0.33 l.
+/** @type {Record<string, any[]>} */
+const UNITS = SHOP.units, ANY_UNIT = Object.keys(UNITS).sort((a, b) => b.length - a.length).join("|");
+const UNIT = RegExp(`(?<![\\p{L}\\p{N}])([0-9]* ?)(${ANY_UNIT})(?![\\p{L}\\p{N}])`, "iu");
+const MEASURE = RegExp(`^(?:([0-9]+) ?[x×] ?)?([0-9]+(?:[.,][0-9]+)?)? ?(${ANY_UNIT})(?: ?[e℮])?$`, "iu");
+
+/**
+ * What a text measures, and how much, in thousand millionths of its smallest unit; nothing if it is no measure, or its
+ * decimals may be a group.
+ * @param {string} text
+ */
+function measureOf(text) {
+  const [, times = "1", count = "1", unit = ""] = text.match(MEASURE) ?? [];
+  if (!unit || /[1-9][0-9]*[.,][0-9]{3}$/.test(count)) return undefined;
+  const [kind, size] = UNITS[unit.toLowerCase()], [whole, fraction = ""] = count.split(/[.,]/);
+  return { kind, size: BigInt(times) * BigInt(whole + fraction) * BigInt(1000 * size) * 10n ** 6n / 10n ** BigInt(fraction.length) };
+}
+
+/**
+ * A price as a whole number of its last decimal, and how many of them are one.
+ * @param {Written} written
+ */
+function exactAmount({ whole, fraction }) {
+  return { number: BigInt(whole.replace(/[^0-9]/g, "") + fraction), scale: 10n ** BigInt(fraction.length) };
+}
+
+/**
+ * Whether a price as it is printed is above another one.
+ * @param {string} price
+ * @param {string} other
+ */
+function isAbove(price, other) {
+  const [one, two] = [price, other].map((it) => exactAmount(writtenPrice(it) ?? /** @type {Written} */ ({ whole: "0", fraction: "" })));
+  return one.number * two.scale > two.number * one.scale;
+}
+
 /**
  * The number of a cell that is written like a price; 0 for any other cell, and if its decimals may be a group.
  * @param {string} cell
@@ -141,7 +210,7 @@ function writtenPrice(cell) {
   const found = /[0-9]/.test(cell) ? cell.match(WRITTEN_PRICE)?.groups : undefined;
   if (!found || found.front && found.back) return undefined;
   const { front = "", whole = "", group = "", point = "", fraction = "", dash = "", back = "", each = "" } = found;
-  return { before: front, whole, group, point, fraction, dash, after: back + each,
+  return { before: front, whole, group, point, fraction, dash, after: back, each,
     currency: trimmed(front || back).toLowerCase(),
     isBelow: !!(found.below || found.minus || found.debit) };
 }

@@ -27,11 +27,11 @@ function shortText(text) {
 const faultOfText = (text, fault, refused = "") => ({ fault: { ...fault, refused, typed: text } });
 
 // The articles of a table, in the order of their lines. A faulty line has its error instead.
-function articlesOf(table, { isFree } = NOTHING_SAID) {
+function articlesOf(table, { isFree, units = [] } = NOTHING_SAID) {
   const prices = table.records.map((record) => plainLine(cellIn(table, record, "price")));
   const amounts = new Amounts(prices, table.heading, isFree), widths = widthsOf(table, amounts.point);
   const numbers = new Map();
-  const articles = table.records.map((record) => articleOf(table, record, { amounts, widths, numbers }));
+  const articles = table.records.map((record) => articleOf(table, record, { amounts, widths, numbers, units }));
   for (const record of table.lost) noteDoubt(numbers, record);
   const wrong = table.faults.map((fault) => ({ ...fault, typed: "", name: "" }));
   return [...withoutDoubles(articles, numbers, wrong), ...wrong].sort((a, b) => a.line - b.line);
@@ -100,7 +100,7 @@ const isHalf = (price, behind) => /^[^0-9.,]*[0-9]{1,7}$/.test(trimmed(price))
   && /^[0-9]{2}[^0-9.,]*$/.test(trimmed(behind));
 const hasDecimals = (cell) => /[0-9][.,][0-9]{1,2}([^0-9]|$)/.test(cell);
 
-function articleOf(table, record, { amounts, widths, numbers }) {
+function articleOf(table, record, { amounts, widths, numbers, units }) {
   const cell = (meaning) => cellIn(table, record, meaning), symbol = symbolOfRecord(cell);
   const article = { line: record.line, from: record.from, typed: symbol.typed, name: plainText(cell("name")) };
   if (symbol.fault) {
@@ -114,7 +114,32 @@ function articleOf(table, record, { amounts, widths, numbers }) {
   if (wrong) return { ...article, fault: wrong };
   const printed = price ? amounts.printed(price) : { price };
   const lines = (table.places.line ?? []).map((place) => plainLine(record.cells[place] ?? "")).filter(Boolean);
-  return { ...article, ...symbol, ...printed, lines, copies: Number(copies || 1) };
+  if (printed.fault) return { ...article, ...printed };
+  const shown = FIELDS.map((meaning) => {
+    const text = plainLine(cell(meaning)), [place] = table.places[meaning] ?? [];
+    return text ? fieldOf(meaning, text, table.look.nameOf(place), printed.price, amounts) : { price: "" };
+  }), content = plainLine(cell("content"));
+  if (units.length && printed.price && content && shown[1].price === "" && !shown.some(({ fault }) => fault)) {
+    const unit = UNIT.test(content) ? "" : table.look.nameOf(table.places.content[0]).match(UNIT)?.[0] ?? "";
+    shown[1] = amounts.ofUnit(printed.price, unit ? `${content} ${unit}` : content, units);
+  }
+  const doubt = shown.find(({ fault }) => fault);
+  return { ...article, ...(doubt ?? { ...symbol, ...printed, fields: shown.map((it) => it.price), lines, copies: Number(copies || 1) }) };
+}
+
+// A field of a label as it shows it: the cell, behind the heading of its column if that says what it is; or why nobody can
+// say what it means.
+function fieldOf(meaning, cell, caption, price, amounts) {
+  const withCaption = (text) => ({ price: trimmed(text && `${caption} ${text}`) }), fault = (key) => ({ fault: { key, values: [shortText(cell)] } });
+  if (meaning === "batch") return withCaption(cell);
+  if (meaning === "best-before") return /[0-9].*[^0-9]|[^0-9].*[0-9]/.test(cell) ? withCaption(cell) : fault("noDay");
+  if (meaning === "unit-price" && cell.includes("=") && UNIT.test(cell)) return { price: cell };
+  const amount = amounts.above(cell);
+  if (!amount.price) return amount;
+  if (meaning === "deposit") return withCaption(amount.price);
+  if (meaning === "old-price") return isAbove(amount.price, price) ? amount : fault("oldPrice");
+  const unit = caption.match(UNIT)?.[0];
+  return UNIT.test(amount.price) ? amount : unit ? { price: `${amount.price}/${trimmed(unit)}` } : fault("noUnit");
 }
 
 // What is typed as the number of a record, and its symbol; or why there is none.

@@ -25,6 +25,10 @@
 const HEADINGS = SHOP.headings;
 const MEANINGS = Object.keys(HEADINGS);
 
+// What a label shows beside its name and price, as gs1.h orders it; and meanings of a heading that has no other words,
+// whose columns are chosen after the price, so that they change nothing in its choice.
+const FIELDS = ["old-price", "unit-price", "deposit", "best-before", "batch"], BESIDE = [...FIELDS, "content"];
+
 // What each heading means, and its rank: a lower one is better.
 /** @type {Map<string, { meaning: string, rank: number }>} */
 const KNOWN = new Map([...MEANINGS].reverse().flatMap((meaning) =>
@@ -34,7 +38,7 @@ const KNOWN = new Map([...MEANINGS].reverse().flatMap((meaning) =>
 const NUMBER_WORDS = new Set(SHOP.numbers);
 
 // Meanings that no list may have twice, since nobody can say which column is meant.
-const ONCE = ["gtin", "gs1", "copies", "kind"];
+const ONCE = ["gtin", "gs1", "copies", "kind", ...BESIDE];
 
 // The heading is one of this many records; how many words of a heading may be that of a number; how many records decide
 // what a column is.
@@ -68,7 +72,7 @@ function knownHeading(heading) {
   // A number with a word beside it, such as EAN: 4012345010008.
   if (/\p{Nd}{7}/u.test(heading)) return { meaning: "", rank: 0 };
   const price = priceHeading(heading), whole = KNOWN.get(plainHeading(heading));
-  if (price) return { meaning: price.reason ? "" : "price", rank: 0 };
+  if (price && !BESIDE.includes(whole?.meaning ?? "")) return { meaning: price.reason ? "" : "price", rank: 0 };
   if (whole) return whole;
   const words = heading.split(/[^\p{L}\p{N}]+/u).filter(Boolean).map(plainHeading);
   const known = words.map((word) => KNOWN.get(word.replace(/[0-9]+$/, "")));
@@ -78,7 +82,7 @@ function knownHeading(heading) {
     return { meaning: "gtin", rank: LONGER * (1 + Number(at > 0) + 3 * Number(isCase)) + (known[at]?.rank ?? 0) };
   }
   const { meaning = "", rank = 0 } = known[0] ?? {}, isNumber = words.slice(1).some((word) => NUMBER_WORDS.has(word));
-  return meaning === "name" && isNumber ? { meaning: "", rank: 0 } : { meaning, rank: LONGER + rank };
+  return meaning === "name" && isNumber || BESIDE.includes(meaning) ? { meaning: "", rank: 0 } : { meaning, rank: LONGER + rank };
 }
 
 /** @param {string} cell */
@@ -205,6 +209,12 @@ class Look {
     const choice = this.prices(places, records);
     delete places.price;
     if (choice.length === 1 && !this.none.has("price")) places.price = choice;
+    // A column of prices of a unit says of what they are, or a person wants it.
+    const hasUnit = (/** @type {number} */ place) => this.asked["unit-price"] || this.records.some(({ cells }) => UNIT.test(cells[place] ?? ""));
+    for (const meaning of BESIDE) {
+      const [place] = places[meaning] ?? [];
+      if (place === places.price?.[0] || meaning === "unit-price" && !hasUnit(place)) delete places[meaning];
+    }
     if (isFound && !this.isLines) this.guessName(places, records.slice(0, SAMPLE));
     return this.tableOf(places, records, choice);
   }
@@ -222,9 +232,10 @@ class Look {
     const other = [...passed].find((record) => this.isOtherHeading(record));
     if (other) throw new Faults(faultAt(other.line, "otherHeading"));
     const rest = records.filter((record) => !passed.has(record)), unused = this.unused(places, records);
+    const beside = [...unused, ...FIELDS.flatMap((meaning) => places[meaning] ?? [])].sort((a, b) => a - b);
     const question = this.none.has("price") ? null : places.price
       ? this.doubt(places, { titles: this.sheet.records.slice(0, this.titles), passed: [...passed], records: rest },
-        unused) : this.priceQuestion(choice, places);
+        beside) : this.priceQuestion(choice, places);
     if (question) delete places.price;
     const [price] = places.price ?? [], { faults, lost, delimiter } = this.sheet;
     return { records: rest, places, faults, lost, delimiter, width, shortest,
@@ -326,7 +337,7 @@ class Look {
    * @param {Places} places
    */
   free(places) {
-    const taken = new Set(Object.entries(places).flatMap(([meaning, its]) => meaning === "price" ? [] : its));
+    const taken = new Set(Object.entries(places).flatMap(([meaning, its]) => ["price", ...BESIDE].includes(meaning) ? [] : its));
     return Array.from({ length: this.wide }, (_, place) => place).filter((place) => !taken.has(place));
   }
 
@@ -396,7 +407,7 @@ class Look {
    */
   unused(places, records) {
     if (this.isLines) return [];
-    const used = new Set(Object.values(places).flat());
+    const used = new Set(Object.entries(places).flatMap(([meaning, its]) => meaning === "content" ? [] : its));
     return Array.from({ length: this.width() }, (_, place) => place).filter((place) => !used.has(place)
       && (this.nameOf(place) || records.some(({ cells }) => trimmed(cells[place] ?? ""))));
   }

@@ -13,7 +13,7 @@ function svgOfLabel({ left, top, drawing }) {
   const texts = drawing.texts.map((text) => {
     const pieces = piecesOf(text), fit = text.cell ? "" : ` textLength="${places(pieces[0].wide)}" lengthAdjust="spacingAndGlyphs"`;
     return `<text x="${pieces.map(({ middle }) => places(middle)).join(" ")}" y="${places(text.base)}" font-size="${places(text.size)}"`
-      + `${text.isBold ? ' font-weight="bold"' : ""}${fit}>${escaped(text.text)}</text>`;
+      + `${text.isBold ? ' font-weight="bold"' : text.isStruck ? ' class="struck"' : ""}${fit}>${escaped(text.text)}</text>`;
   });
   return `<g transform="translate(${left} ${top})"><path d="${path}" shape-rendering="crispEdges"/>${texts.join("")}</g>`;
 }

@@ -224,7 +224,7 @@ function listenToLabels() {
   at("look").value = memory.get("look") || "price";
   for (const id of ["stock", "look", "dpi"]) at(id).addEventListener("change", changeStock);
   at("own").addEventListener("input", () => { document.made = makeLabels(); });
-  for (const id of ["first", "module"]) at(id).addEventListener("input", () => { document.made = makeLabels(); });
+  for (const id of ["first", "module", "units"]) at(id).addEventListener("input", () => { document.made = makeLabels(); });
   at("back").addEventListener("click", () => { shop.page--; showSheet(); });
   at("next").addEventListener("click", () => { shop.page++; showSheet(); });
   for (const zoom of ["fit", "real"]) at(`zoom-${zoom}`).addEventListener("click", () => setZoom(zoom));

@@ -19,8 +19,8 @@ function cellOf(stock, dots) {
   return { dots, width, height, aside: stock.aside * dots, above: stock.above * dots };
 }
 
-// The texts of a label by their numbers in gs1.h: its name, its price and its further lines.
-const fieldsOf = ({ name, price, lines }) => ({ 0: name, 1: price, 7: lines.join("\n") });
+// The texts of a label by their numbers in gs1.h: its name, its price, its fields and its further lines.
+const fieldsOf = ({ name, price, fields, lines }) => [name, price, ...fields, lines.join("\n")];
 
 // Lays out the labels of a list in a look, with modules of so many dots if somebody asks for that.
 class Layout {
@@ -31,7 +31,7 @@ class Layout {
     const signs = new Set(ALWAYS), { look: own, article, plan, drawing, row, part, measure } = SIZES;
     let longest = 0;
     for (const { text, ...its } of articles) {
-      const texts = [text, ...Object.values(fieldsOf(its))];
+      const texts = [text, ...fieldsOf(its)];
       for (const told of texts) for (const sign of told) signs.add(sign);
       longest = Math.max(longest, texts.reduce((sum, told) => sum + told.length, 0));
     }
@@ -85,7 +85,7 @@ class Layout {
     let end = at.texts + Math.ceil(written / 8) * 8;
     this.point(at.article, at.texts, written);
     for (let field = 0; field < 8; field++) {
-      const codes = Array.from(told[field] ?? "", (sign) => sign.codePointAt(0));
+      const codes = Array.from(told[field], (sign) => sign.codePointAt(0));
       new Uint32Array(memory, end, codes.length).set(codes);
       this.point(at.article + SIZES.letters * (1 + field), end, codes.length);
       end += 4 * codes.length;
@@ -118,8 +118,7 @@ class Layout {
     if (fault) return { fault };
     const drawing = { boxes: [], texts: [], warnings: [], item: article }, count = view.getUint32(at.drawing, true);
     const words = new Uint16Array(this.memory, at.parts, count * SIZES.part / 2);
-    const told = { ...fieldsOf(article), 8: symbolOf(article).digits };
-    for (const [field, text] of Object.entries(told)) told[field] = Array.from(text);
+    const told = [...fieldsOf(article), symbolOf(article).digits].map((text) => Array.from(text));
     for (let i = 0; i < words.length; i += SIZES.part / 2) {
       const box = [words[i], words[i + 1], words[i + 2], words[i + 3]];
       if ((words[i + 7] & 255) === 2) this.putText(drawing, told[words[i + 4]], box, at.parts + 2 * i);
@@ -130,7 +129,7 @@ class Layout {
   }
 
   // Puts the letters of a part into a drawing, with a warning if their text goes on.
-  putText({ texts, warnings }, told, box, at) {
+  putText({ boxes, texts, warnings }, told, box, at) {
     const [field, from, count] = [8, 10, 12].map((i) => this.view.getUint16(at + i, true));
     const [size, start, base, cell] = [16, 20, 24, 28].map((i) => this.view.getUint32(at + i, true) / 64);
     const flags = this.view.getUint8(at + 15), isCut = flags & 1, isBold = (flags & 2) > 0;
@@ -140,8 +139,10 @@ class Layout {
       const front = told.slice(begin, from + count).join("").replace(/\s+/g, " ");
       warnings.push({ key: "cut", values: [`${front}…`], rank: 0 });
     }
+    const isStruck = (flags & 4) > 0;
+    if (isStruck) boxes.push([box[0], box[1] + (box[3] >> 1), box[2], Math.max(1, Math.floor(box[3] / 14))]);
     // Letters such as j begin left of their origin.
-    texts.push({ text, isBold, size, left: start + size * inkOf(signs[0], isBold).left, base, cell, box });
+    texts.push({ text, isBold, isStruck, size, left: start + size * inkOf(signs[0], isBold).left, base, cell, box });
   }
 
   // Warns if the standard asks for other modules or bars than these.

@@ -9,7 +9,7 @@
  */
 
 // The columns that a person may correct, and how many faults and values of a column are shown.
-const COLUMNS = ["gtin", "gs1", "name", "price", "line", "copies", "kind"], MOST_FAULTS_SHOWN = 40, MOST_SAMPLES = 3;
+const COLUMNS = ["gtin", "gs1", "name", "price", "line", ...BESIDE, "copies", "kind"], MOST_FAULTS_SHOWN = 40, MOST_SAMPLES = 3;
 const MOST_NAMED = 12;
 
 // What was answered, and about a list with which first line; the file that is open, with its bytes and its first and
@@ -29,10 +29,12 @@ function listRead() {
   if (!list.text.trim()) return { articles: [], columns: null, notes: [], question: null };
   if (file?.question) return { articles: [], columns: null, notes, question: encodingQuestion(file) };
   try {
-    const table = tableOf(list, asked, MOST_LINES), articles = articlesOf(table, asked), { question, look } = table;
+    const table = tableOf(list, asked, MOST_LINES), units = at("units").value.split(",").filter(Boolean), { question, look } = table;
+    if (units.length && !table.places.content && !question) throw look.question("content", [], faultAt(1, "noContents"));
+    const articles = articlesOf(table, { ...asked, units });
     const asks = question && columnQuestion({ ...question, meaning: "price" }, look);
     return asks ? { articles: [], columns: table, notes, question: asks }
-      : { articles, columns: table, notes: [...notes, ...notesOfTable(table, articles)], question: null };
+      : { articles, columns: table, notes: [...notes, ...notesOfTable(table, articles, units)], question: null };
   } catch (error) {
     if (!(error instanceof Faults)) throw error;
     const { look, question, faults } = error, columns = look && { look, places: {} };
@@ -43,11 +45,13 @@ function listRead() {
 }
 
 // What a person should know of how a list was read.
-function notesOfTable({ titled, unused, passed, places }, articles) {
+function notesOfTable({ titled, unused, passed, places, look }, articles, units) {
   const unpriced = places.price ? articles.filter(({ fault, price }) => !fault && !price).map(({ line }) => line) : [];
+  const unmeasured = units.length ? articles.filter(({ fault, price, fields }) => !fault && price && !fields[1]).map(({ line }) => line) : [];
+  const named = unused.filter(({ values: [name] }) => !units.length || name !== look.nameOf(places.content[0]));
   return [...(titled ? [{ key: "tookLine", values: [titled] }] : []),
-    ...(unused.length ? [{ key: "unused", values: [{ list: unused }] }] : []),
-    ...linesTold("passed", passed), ...linesTold("unpriced", unpriced)];
+    ...(named.length ? [{ key: "unused", values: [{ list: named }] }] : []),
+    ...linesTold("passed", passed), ...linesTold("unpriced", unpriced), ...linesTold("unmeasured", unmeasured)];
 }
 
 // A sentence that counts some lines, if there are any.

@@ -3,10 +3,10 @@ from __future__ import annotations
 
 import re
 from decimal import ROUND_HALF_UP, Decimal
-from typing import Dict, Iterable, List, NamedTuple, Optional
+from typing import Dict, Iterable, List, NamedTuple, Optional, Sequence, Tuple
 
 from ._prices import PriceHeading
-from ._shop import decimal_sign, file_of, said
+from ._shop import decimal_sign, file_of, said, shared
 from ._texts import short
 
 _DECIMALS: Dict[str, int] = {}
@@ -25,6 +25,11 @@ _PRICE = re.compile(
     re.IGNORECASE)
 """A price: a number with or without decimals, a currency before or behind it, and what it is for."""
 _DIGIT = re.compile("[0-9]")
+_UNITS: Dict[str, Tuple[str, float]] = shared("units")
+"""Of what a unit is a measure, and how many of its smallest it has."""
+UNIT = re.compile(rf"(?<![^\W_])([0-9]* ?)({'|'.join(sorted(_UNITS, key=len, reverse=True))})(?![^\W_])", re.IGNORECASE)
+"""A unit in a text, perhaps with a number of it."""
+_MEASURE = re.compile(rf"(?:([0-9]+) ?[x×] ?)?([0-9]+(?:[.,][0-9]+)?)? ?({'|'.join(_UNITS)})(?: ?[e℮])?", re.IGNORECASE)
 
 
 class _Written(NamedTuple):
@@ -37,6 +42,7 @@ class _Written(NamedTuple):
     fraction: str
     dash: str
     after: str
+    each: str
     currency: str
     is_below: bool
 
@@ -47,6 +53,7 @@ class Amounts:
     def __init__(self, cells: Iterable[str], heading: Optional[PriceHeading], currency: str, is_free: bool) -> None:
         marks = sorted(heading.marks & _DECIMALS.keys()) if heading else []
         self._decimals = _DECIMALS.get((currency or "".join(marks[:1])).casefold(), 2)
+        self._sign = currency
         self._is_cents, self._is_free = bool(heading and heading.is_cents), is_free
         written = [it for it in map(_written, cells) if it and it.point and (it.group or len(it.fraction) != 3)]
         points = {it.point for it in written}
@@ -67,7 +74,30 @@ class Amounts:
         if not self._is_free and not re.search("[1-9]", price.whole + price.fraction):
             raise ValueError(f"{said('zeroPrice', short(cell))} (--free)")
         decimals = f"{price.point}{price.fraction or price.dash}" if price.fraction or price.dash else ""
-        return f"{price.before}{price.whole}{decimals}{price.after}"
+        return f"{price.before}{price.whole}{decimals}{price.after}{price.each}"
+
+    def signed(self, cell: str) -> str:
+        """An amount as it is printed, with the sign of the currency if it has none; nothing for zero."""
+        price = _written(cell)
+        if price and not re.search("[1-9]", price.whole + price.fraction):
+            return ""
+        return signed(self.printed(cell), self._sign)
+
+    def of_unit(self, price: str, content: str, units: Sequence[str]) -> str:
+        """The price of one of these units, such as ``1 kg = 5.80``, by a price as it is printed and what it is for.
+
+        :raises ValueError: it cannot be told.
+        """
+        kind, size = _DIGIT.search(content) and measure_of(content) or ("", Decimal())
+        written, unit = _written(price), next((it for it in units if (measure_of(it) or ("",))[0] == kind), "")
+        _, asked = measure_of(unit) or ("", Decimal())
+        if not size or not unit or not written or written.each:
+            raise ValueError(said("noContent", short(content), ", ".join(units)))
+        number = amount_of(price) * asked / size
+        whole, _, fraction = str(number.quantize(Decimal(1).scaleb(-_DECIMALS.get(written.currency, self._decimals)), ROUND_HALF_UP)).partition(".")
+        point = fraction and (written.point or self.point or decimal_sign())
+        amount = signed(f"{written.before}{whole}{point}{fraction}{written.after}", self._sign)
+        return re.sub("^([0-9]*) ?", lambda found: f"{found[1] or 1} ", unit) + f" = {amount}"
 
     def _of_cents(self, price: _Written, cell: str) -> _Written:
         """The price in money of a whole number of cents."""
@@ -113,6 +143,26 @@ def _rounded(price: _Written, decimals: int) -> str:
     return str(number.quantize(Decimal(1).scaleb(-decimals), ROUND_HALF_UP)).replace(".", price.point)
 
 
+def signed(amount: str, currency: str) -> str:
+    """An amount with the sign of a currency behind it, if it is only a number."""
+    return f"{amount}\xa0{currency}" if currency and re.fullmatch(r"[\d.,' ]+", amount) else amount
+
+
+def measure_of(text: str) -> Optional[Tuple[str, Decimal]]:
+    """What a text such as ``6 x 0.33 l`` measures, and how much; nothing if it is no measure, or its decimals may be a group."""
+    found = _MEASURE.fullmatch(text)
+    if not found or re.search("[1-9][0-9]*[.,][0-9]{3}$", found[2] or ""):
+        return None
+    kind, size = _UNITS[found[3].lower()]
+    return kind, Decimal(found[1] or 1) * Decimal((found[2] or "1").replace(",", ".")) * Decimal(str(size))
+
+
+def amount_of(price: str) -> Decimal:
+    """The number of a price as it is printed."""
+    written = _written(price)
+    return Decimal(f"{re.sub('[^0-9]', '', written.whole)}.{written.fraction or 0}") if written else Decimal()
+
+
 def price_like(cell: str) -> bool:
     """Whether a cell is nothing but a price with decimals."""
     price = _written(cell)
@@ -135,4 +185,4 @@ def _written(cell: str) -> Optional[_Written]:
     part: Dict[str, str] = {name: text or "" for name, text in found.groupdict().items()}
     currency = (part["front"] or part["back"]).strip().casefold()
     return _Written(part["front"], part["whole"], part["group"], part["point"], part["fraction"], part["dash"],
-                    part["back"] + part["each"], currency, any(part[name] for name in ("below", "minus", "debit")))
+                    part["back"], part["each"], currency, any(part[name] for name in ("below", "minus", "debit")))

@@ -3,21 +3,24 @@ from __future__ import annotations
 
 import re
 from collections import Counter
-from dataclasses import dataclass, replace
+from dataclasses import dataclass, field, replace
 from typing import Dict, List, Mapping, Optional, Sequence, Set, Tuple
 
 from . import Refusal
+from ._amounts import UNIT
 from ._files import opened_list
-from ._headings import LONGER, MEANINGS, Headings, known, plain
+from ._headings import FIELDS, LONGER, MEANINGS, Headings, known, plain
 from ._lists import LIMIT, SPREADSHEET, WHOLE_LINES, Fault, Faults, Record, Sheet
 from ._prices import PriceHeading, price_of, shelf_prices
 from ._remarks import FLAGS, remark_on
 from ._shop import said, sentence_of_lines, told
 from ._texts import looks_right, read_text
 
-_ONCE = ("gtin", "gs1", "copies", "kind")
+_ONCE = ("gtin", "gs1", "copies", "kind", *FIELDS, "content")
 """Meanings that no list may have twice, since nobody can say which column is meant."""
 
+_BESIDE = {*FIELDS, "content"}
+"""Meanings of columns that are chosen after the price, so that they change nothing in its choice."""
 _MOST_TITLES = 10
 """The heading is one of the first 10 records."""
 _SAMPLE = 200
@@ -32,8 +35,8 @@ class Table:
     records: Sequence[Record]
     """The records with a number, without the heading."""
     places: Mapping[str, Sequence[int]]
-    """Where the columns are, by what they are: ``gtin`` or ``gs1`` or both, ``name``, ``price``, ``copies``, ``kind``, and
-    ``line`` of any number of columns."""
+    """Where the columns are, by what they are: ``gtin`` or ``gs1`` or both, ``name``, ``price``, the fields, ``content``,
+    ``copies``, ``kind``, and ``line`` of any number of columns."""
     faults: Sequence[Fault]
     """The errors of the lines that are no records."""
     note: str
@@ -47,6 +50,8 @@ class Table:
     """What a person must say about the price before labels are made."""
     heading: Optional[PriceHeading] = None
     """What the heading of the price says."""
+    captions: Mapping[str, str] = field(default_factory=dict)
+    """The headings of the columns by what they are."""
     unused: Sequence[str] = ()
     """The columns that are not used, by their headings or numbers."""
     lost: Sequence[Record] = ()
@@ -128,6 +133,11 @@ class _Look:
         """Whether a column has a cell below the heading."""
         return any(record.cells[place].strip() for record in self.records[1:] if place < len(record.cells))
 
+    def _has_unit(self, place: int) -> bool:
+        """Whether a column says of what its prices are, or a person wants it."""
+        cells = (record.cells[place] for record in self.records if place < len(record.cells))
+        return "unit-price" in {*self.asked, *self.named} or any(map(UNIT.search, cells))
+
     def _meanings(self, record: Record, own: Mapping[str, str]) -> Dict[str, List[Tuple[int, int]]]:
         """What the cells of a record mean if it is a heading: for each meaning the rank and the column. A record with a valid
         number is no heading, whatever its article is called."""
@@ -166,6 +176,9 @@ class _Look:
         choice = self._prices(places, records, has_heading)
         places.pop("price", None)
         places.update({"price": choice} if len(choice) == 1 else {})
+        for meaning in _BESIDE & places.keys():
+            if places[meaning] == places.get("price") or meaning == "unit-price" and not self._has_unit(places[meaning][0]):
+                del places[meaning]
         if is_found and self.sheet.delimiter != WHOLE_LINES:
             self._guess_name(places, records[:_SAMPLE])
         return self._table(places, records, choice, headings, is_found)
@@ -191,12 +204,14 @@ class _Look:
         if "price" not in {*places, *self.none}:
             question = headings.question(choice, self._amounts(self._free(places), records))
         elif headings.cells and "price" not in {*self.asked, *self.named, *self.none}:
-            remark = remark_on(places["price"][0], headings, self.sheet.records[:self.titles], passed, rest, unused)
+            beside = sorted([*unused, *(place for meaning in FIELDS for place in places.get(meaning, ()))])
+            remark = remark_on(places["price"][0], headings, self.sheet.records[:self.titles], passed, rest, beside)
             question = remark and headings.doubt(places.pop("price")[0], *remark)
         price = places.get("price", ())
         return Table(
             records=rest, places=places, faults=self.sheet.faults, note=note, delimiter=self.sheet.delimiter, width=wide,
             shortest=shortest, question=question, heading=price_of(headings.of(price[0])) if price else None,
+            captions={meaning: headings.of(its[0]) for meaning, its in places.items() if its},
             unused=[headings.named(place) for place in unused], lost=self.sheet.lost, passed=sorted(lines),
             source=self.sheet.records)
 
@@ -273,7 +288,7 @@ class _Look:
 
     def _free(self, places: Mapping[str, Sequence[int]]) -> List[int]:
         """The columns that are no number, name, kind or line, and no number of copies."""
-        taken = {place for meaning, found in places.items() if meaning != "price" for place in found}
+        taken = {place for meaning, found in places.items() if meaning not in ("price", *_BESIDE) for place in found}
         return [place for place in range(self.wide) if place not in taken]
 
     def _amounts(self, free: Sequence[int], records: Sequence[Record]) -> List[int]:
@@ -286,7 +301,7 @@ class _Look:
         """The columns that are not used and have a heading or a cell."""
         if self.sheet.delimiter == WHOLE_LINES:
             return []
-        used = {place for found in places.values() for place in found}
+        used = {place for meaning, found in places.items() if meaning != "content" for place in found}
         filled: Set[int] = {place for record in records for place, cell in enumerate(record.cells) if cell.strip()}
         wide = self._width(headings)
         return [place for place in range(wide) if place not in used and (place in filled or headings.of(place))]

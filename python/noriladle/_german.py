@@ -62,6 +62,9 @@ TEXTS: Dict[str, str] = {
     "Turn the labels by 90 degrees on their stock": "Den Inhalt der Etiketten um 90 Grad drehen",
     "Sign to put behind prices without one, such as €": "Zeichen hinter Preisen, die keines haben, etwa €",
     "Make labels without a price": "Etiketten ohne Preis machen",
+    "Print the price of a unit, such as kg,l or 100g,100ml, by the column of the content":
+        "Den Grundpreis drucken, etwa für kg,l oder 100g,100ml, aus der Spalte des Inhalts",
+    "{0!r} is no unit, such as kg, 100g or l": "{0!r} ist keine Einheit wie kg, 100g oder l",
     "Print prices of zero, too": "Auch Preise von null drucken",
     "Leave out lines that have errors, and make the labels of the others":
         "Zeilen mit Fehlern weglassen und die Etiketten der anderen machen",
@@ -93,9 +96,9 @@ TEXTS: Dict[str, str] = {
         "die Etiketten von {0!r} sind größer als ihre Seite von {1} x {2} mm",
     """
 LIST is a CSV file or a spreadsheet, .xlsx or .ods. Its headings say which column is gtin (or ean, upc) or gs1, name,
-price, copies, kind (ean13, upca, ean8, upce, itf14 or gs1128) and line 1, line 2, .. in English, German, French, Spanish,
-Italian, Dutch or Polish; a column of numbers without such a heading is found by its cells. If lines have errors, each is
-reported with what to do, nothing is written, and the status is 1; --leave-out makes the labels of the others. If
+price, copies, kind (ean13, upca, ean8, upce, itf14 or gs1128), old price, price per kg, deposit, best before, batch and
+line 1, line 2, .. in English, German, French, Spanish, Italian, Dutch or Polish; a column of numbers without such a
+heading is found by its cells. If lines have errors, each is reported with what to do, nothing is written, and the status is 1; --leave-out makes the labels of the others. If
 several columns may be the price, the command asks, and --column price=HEADING answers. The end of FILE's name says the
 format: .pdf, .svg, .png, or .zpl, .epl, .tspl for a label printer. Print a PDF file at 100 %.
 
@@ -103,8 +106,8 @@ format: .pdf, .svg, .png, or .zpl, .epl, .tspl for a label printer. Print a PDF 
 """: """
 LIST ist eine CSV-Datei oder eine Tabelle, .xlsx oder .ods. Ihre Überschriften sagen auf Deutsch, Englisch, Französisch,
 Spanisch, Italienisch, Niederländisch oder Polnisch, was eine Spalte ist: die Nummer (EAN, GTIN, UPC) oder GS1-Elemente
-(gs1), Name, Preis, Anzahl, Art (ean13, upca, ean8, upce, itf14 oder gs1128) oder Zeile 1, Zeile 2 und so weiter. Eine
-Spalte von Nummern ohne solche Überschrift findet der Befehl an ihren Zellen. Haben Zeilen Fehler, so sagt er zu jeder,
+(gs1), Name, Preis, Anzahl, Art (ean13, upca, ean8, upce, itf14 oder gs1128), alter Preis, Preis pro kg, Pfand, MHD,
+Chargennummer oder Zeile 1, Zeile 2 und so weiter. Eine Spalte von Nummern ohne solche Überschrift findet der Befehl an ihren Zellen. Haben Zeilen Fehler, so sagt er zu jeder,
 was zu tun ist, schreibt nichts und endet mit Status 1; --leave-out macht die Etiketten der anderen. Können mehrere
 Spalten der Preis sein, so fragt er, und --column price=ÜBERSCHRIFT antwortet. Das Ende von FILE sagt das Format: .pdf,
 .svg, .png, oder .zpl, .epl, .tspl für einen Etikettendrucker. Eine PDF-Datei bitte mit 100 % drucken.

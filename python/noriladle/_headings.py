@@ -17,6 +17,10 @@ and signs. If several columns have one meaning, the word that comes first here w
 of prices are in shop/prices.json."""
 
 MEANINGS = tuple(_WORDS)
+FIELDS = ("old-price", "unit-price", "deposit", "best-before", "batch")
+"""What a label shows beside its name and price, as gs1.h orders it."""
+_EXACT = frozenset((*FIELDS, "content"))
+"""Meanings of a heading that has no other words."""
 _KNOWN = {word: (meaning, rank)
           for meaning, words in reversed(_WORDS.items()) for rank, word in enumerate(words)}
 _NUMBERS = frozenset(shared("numbers"))
@@ -40,11 +44,11 @@ def known(heading: str) -> Tuple[str, int]:
     """What a heading means, if it or one of its words is known, and its rank: a lower one is better."""
     if re.search(r"\d{7}", heading):
         return "", 0  # A number with a word beside it, such as EAN: 4012345010008.
-    price = price_of(heading)
-    if price:
+    price, whole = price_of(heading), _KNOWN.get(plain(heading))
+    if price and not (whole and whole[0] in _EXACT):
         return ("", 0) if price.reason else ("price", 0)
-    if plain(heading) in _KNOWN:
-        return _KNOWN[plain(heading)]
+    if whole:
+        return whole
     words = [plain(word) for word in re.split(r"[\W_]+", heading) if word] or [""]
     meanings = [_KNOWN.get(word.rstrip("0123456789"), ("", 0)) for word in words]
     number = next((at for at, (meaning, _) in enumerate(meanings[:_MOST_WORDS]) if meaning == "gtin"), None)
@@ -53,7 +57,7 @@ def known(heading: str) -> Tuple[str, int]:
     if number is not None:
         return "gtin", LONGER * (1 + bool(number) + 3 * bool(CARTON.search(folded(heading)))) + meanings[number][1]
     meaning, rank = meanings[0]
-    return ("", 0) if meaning == "name" and _NUMBERS & {*words[1:]} else (meaning, LONGER + rank)
+    return ("", 0) if meaning == "name" and _NUMBERS & {*words[1:]} or meaning in _EXACT else (meaning, LONGER + rank)
 
 
 class Headings:

@@ -175,6 +175,31 @@ def test_an_answered_question():
         assert article.price == price
 
 
+@pytest.mark.parametrize("heading, cell, shown", [
+    ("alter Preis", "3,5", "3,50 €"), ("Was", "0,00", ""), ("Preis pro kg", "5,8", "5,80 €/kg"), ("Prix au litre", "5.80 €", "5.80 €/litre"),
+    ("Grundpreis", "1 kg = 5,80 €", "1 kg = 5,80 €"), ("Grundpreis", "5,80/100 g", "'5,80/100 g' is no price"), ("Grundpreis", "5,80", ""), ("Prezzo al kg", "x", "'x' is no price"),
+    ("Pfand", "0,25", "Pfand 0,25 €"), ("Pfand", "0", ""), ("Pfand", "ja", "'ja' is no price"), ("Pfand-Nr", "4", ""), ("MHD", "31.12.2026", "MHD 31.12.2026"),
+    ("MHD", "46387", "'46387' is no day"), ("Chargennummer", "L 7", "Chargennummer L 7"), ("Prix barré", "2,90", "not above the price"), ("Stara cena", "x", "'x' is no price"),
+])
+def test_fields(heading, cell, shown):
+    prices = read_list(f"EAN;Preis;{heading}\n{OATS};2,90;{cell}\n".encode(), 2026, currency="€")
+    told = [text.replace("\xa0", " ") for article in prices.articles for text in article.fields if text] + [fault.said for fault in prices.faults]
+    assert told == [shown] if shown and not prices.faults else not shown and not told or shown in told[0]
+    assert bool(prices.notes) == (heading == "Pfand-Nr" or (heading, cell) == ("Grundpreis", "5,80"))
+
+
+@pytest.mark.parametrize("price, content, shown", [
+    ("2,90", "500 g", "1 kg = 5,80"), ("1.54 €", "6 x 0,33 l", "100 ml = 0.08 €"), ("1,00", "0,375 kg", "1 kg = 2,67"), ("CHF 3.50", "1,5 KG", "1 kg = CHF 2.33"),
+    ("2,90", "1.500 g", None), ("2,90", "kg", None), ("2,90", "0 g", None), ("2,90", "12 Stück", None), ("2,90/kg", "500 g", None), ("2,90", "", ""), ("", "500 g", ""),
+])
+def test_the_price_of_a_unit(price, content, shown):
+    prices = read_list(f"EAN;Preis;Inhalt\n{OATS};{price};{content}\n{RYE};1,00;1 kg\n".encode(), 2026, units=["kg", "100ml"])
+    assert prices.articles[0].fields[1] == shown if shown is not None else "is no content" in prices.faults[0].said
+    assert ("1 line has no content, and its label no price of a unit: 2" in prices.notes) == (content == "")
+    with pytest.raises(Faults, match="no column has the content.*--column content="):
+        read_list(f"EAN;Preis\n{OATS};1,00\n".encode(), 2026, units=["kg"])
+
+
 def test_a_language_has_its_numbers():
     try:
         _shop.speak("de")

@@ -114,8 +114,8 @@ def test_what_is_no_list(command, data, status, said, folder, capsys):
 @pytest.mark.parametrize("words, said", [
     (["check", "b.csv"], "noriladle: b.csv: No such file or directory"),
     (["check", "."], "noriladle: .: Is a directory"),
-    (["check", "a.csv", "--column", "ean=x"], "noriladle: --column ean=x: write one of gtin, gs1, name, price, copies, kind, line, = and a "
-     "heading, as in --column name=Bezeichnung"),
+    (["check", "a.csv", "--column", "ean=x"], "noriladle: --column ean=x: write one of gtin, gs1, name, price, old-price, "
+     "unit-price, deposit, best-before, batch, content, copies, kind, line, = and a heading, as in --column name=Bezeichnung"),
     (["labels", "b.csv"], "noriladle: b.csv: No such file or directory"),
     (["labels", "a.csv", "-o", "no/a.pdf"], "noriladle: no/a.pdf: there is no folder no"),
     (["labels", "a.csv", "-o", "a.doc"], "noriladle: a.doc: the end of the name says no form: write .pdf, .svg, .png, .zpl, .epl, .tspl, or "

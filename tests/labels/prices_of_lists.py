@@ -64,6 +64,8 @@ def answer_of(done, heading, wanted):
 def heading_answer(row):
     """The answers of a list with this heading alone, and of a list that has another price before it and after it."""
     heading, kind, plain = row["heading"], row["is"], PRICES[row["language"]]
+    # An old price is above the price.
+    other = "12,31" if kind == "old" else "7,31"
     if kind in ("price", "price or ask"):
         cost = COSTS[row["language"]]
         trials = [(of_one_line([heading], ["7,31"]), 731)]
@@ -74,9 +76,9 @@ def heading_answer(row):
             ]
     else:
         trials = [
-            (of_one_line([heading], ["7,31"]), None),
-            (of_one_line([heading, plain], ["7,31", "9,87"]), 987),
-            (of_one_line([plain, heading], ["9,87", "7,31"]), 987),
+            (of_one_line([heading], [other]), None),
+            (of_one_line([heading, plain], [other, "9,87"]), 987),
+            (of_one_line([plain, heading], ["9,87", other]), 987),
         ]
     answers = [answer_of(done, heading, wanted) for done, wanted in trials]
     for (done, _), answer in zip(trials, answers):
@@ -136,7 +138,11 @@ class Expected:
             counted = all(str(numbers.count(cells[self.gtin])) == cells[at] for cells in self.lines)
             if at in (self.gtin, self.called, place) or counted or not any(cells[at] for cells in self.lines):
                 continue
-            if heading not in done.names(self.headings):
+            printed = {label.number: label.text for label in done.labels}
+            shown = [re.search(re.escape(it) + "|" + (re.sub(r"[^\d.,]", "", it) or "$^"), printed[cells[self.gtin]])
+                     for cells in self.lines for it in [cells[at]] if re.search("[1-9]", it)]
+            is_printed = shown and all(shown)
+            if heading not in done.names(self.headings) and not is_printed:
                 return f"the column '{heading}' is dropped in silence"
         return ""
 

@@ -19,11 +19,12 @@ STOCK = "2x5:99x57"  # Labels on which every name and price of these tests fits.
 
 
 class Label:
-    """What stands on one label: the digits under its bars, and its other texts from the top."""
+    """What stands on one label: the digits under its bars, its other texts from the top, and those that are struck out."""
 
     def __init__(self, group):
-        lines = {}
-        for text in group.iter(f"{SVG}text"):
+        lines, texts = {}, [*group.iter(f"{SVG}text")]
+        self.struck = ["".join(text.itertext()) for text in texts if text.get("class") == "struck"]
+        for text in [it for it in texts if it.get("class") != "struck"]:
             lines.setdefault(round(float(text.get("y"))), []).append("".join(text.itertext()))
         rows = [
             "".join(parts) if all(re.fullmatch(r"[\d ]+", part) for part in parts) else " ".join(parts)
@@ -35,7 +36,7 @@ class Label:
 
     @property
     def text(self):
-        return " ".join(self.texts)
+        return " ".join([*self.texts, *self.struck])
 
     def prices(self, *others):
         """The cents of each text that is an amount alone, once these other texts are taken out.

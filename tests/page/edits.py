@@ -81,6 +81,14 @@ EDITS = [
     ("prices.js", "saysSo && !has(PRICE_WORDS.recommended, text)", "saysSo"),
     ("columns.js", "...(mayBeBoth ? best : [])", ""),
     ("columns.js", "if (!others.length) return best;", "if (others.length < 9) return best;"),
+    ("amounts.js", "(2n * above + below)", "(2n * above)"),
+    ("amounts.js", "!written || written.each", "!written"),
+    ("amounts.js", "if (!unit || /[1-9][0-9]*[.,][0-9]{3}$/.test(count)) return", "if (!unit) return"),
+    ("articles.js", "isAbove(amount.price, price) ? amount : fault(\"oldPrice\")", "amount"),
+    ("articles.js", "/[0-9].*[^0-9]|[^0-9].*[0-9]/.test(cell)", "true"),
+    ("articles.js", "`${amount.price}/${trimmed(unit)}`", "amount.price"),
+    ("columns.js", "meaning === \"name\" && isNumber || BESIDE.includes(meaning)", "meaning === \"name\" && isNumber"),
+    ("columns.js", "[\"price\", ...BESIDE].includes(meaning) ? []", "meaning === \"price\" ? []"),
     ("articles.js", "for (const record of table.lost) noteDoubt(numbers, record);", ""),
 ]
 

@@ -39,8 +39,12 @@ NAMES = ["Haferkekse", "Rye bread", "Käse, jung", "Blütenhonig \"cremig\"", "E
 PRICES = ["2,90", "2.90 €", "€ 1.10", "1,10 €/Stk", "", "12345,67", "CHF 3.50", "x", "1.299", "1.299,00", "2,9", "2", "-1,00", "0,00", "3.–", "2,905", "1'234.50", "02. Sep",
           "007", "1,00-"]
 HEADINGS = [["EAN", "GTIN", "Strichcode", "Code-barres", "Artikelnummer", "gs1", "EAN Karton", "Nummer", ""], ["Name", "Artikel", "Bezeichnung", "Libellé", "Towar", "x"],
-            ["Preis", "price", "Prix TTC", "Cena brutto", "VK (EUR)", "EK", "UVP", "Preis in Cent", "Prix (JPY)", "Preis je kg", "Preis [Kiosk]"], ["copies", "Etiketten", "Anzahl"], ["kind", "Art", "Codeart"], ["Zeile 1", "line2", "Text"]]
-OTHERS = [["1", "3", "", "0", "1001", "-1", "²"], ["", "ean13", "EAN-8", "upce", "qr", "gs1128", "itf14"], ["1 kg = 4,79 €", "", "neu"]]
+            ["Preis", "price", "Prix TTC", "Cena brutto", "VK (EUR)", "EK", "UVP", "Preis in Cent", "Prix (JPY)", "Preis je kg", "Preis [Kiosk]"], ["copies", "Etiketten", "Anzahl"], ["kind", "Art", "Codeart"], ["Zeile 1", "line2", "Text"],
+            ["alter Preis", "Was", "Prix barré", "Alter Preis EUR"], ["Grundpreis", "Preis pro kg", "Prix au litre", "Preis je kg"], ["Pfand", "Consigne", "Pfand-Nr"],
+            ["MHD", "best before", "Haltbar"], ["Chargennummer", "Lot", "Charge"], ["Inhalt", "Content", "Poids net", "Inhalt (g)"]]
+OTHERS = [["1", "3", "", "0", "1001", "-1", "²"], ["", "ean13", "EAN-8", "upce", "qr", "gs1128", "itf14"], ["1 kg = 4,79 €", "", "neu"],
+          [*PRICES, "3,50", "99,00 €"], ["5,80 €/kg", "1 kg = 5,80 €", "5,8", "", "5.80 / 100 g", "x", "0"], ["0,25", "0,00", "", "0,25 €", "x", "1.299"], ["31.12.2026", "2026-12-31", "46387", "", "12/26", "Dez"],
+          ["L7", "", "0042", "ü"], ["500 g", "0,75 l", "6 x 0,33 l", "1.500 g", "kg", "", "0 g", "12 Stück", "500", "0,375 L", "500 g e"]]
 PIECES = ['"', ";", ",", "\t", "\r", "\n", "(01)", "^", "ü", "u\u0308", "9" * 30, "E+12", "€", " ", "\xa0", "-", "=" * 300, "\x1d", "copies", "2000", "{}", "<&>",
           "]E0", "[10]", "https://", "\x1f", "sep=;\n", "gtin", "\0", "\ufeff", "ß", "ł", "²", "\u2007"]
 
@@ -48,7 +52,7 @@ PIECES = ['"', ";", ",", "\t", "\r", "\n", "(01)", "^", "ü", "u\u0308", "9" * 3
 def listed(chance):
     """A list as people may have one, with or without a heading, in one of the ways that it is saved."""
     delimiter, end = chance.choice([";", "\t", ",", ";"]), chance.choice(["\n", "\r\n", "\n", "\r"])
-    columns = chance.choice([[0], [0, 1], [0, 1, 2], [1, 0, 2], [0, 1, 2, 3], [0, 1, 2, 3, 4, 5], [2, 1, 0], [0, 0, 1], [0, 1, 2, 2]])
+    columns = chance.choice([[0], [0, 1], [0, 1, 2], [1, 0, 2], [0, 1, 2, 3], [0, 1, 2, 3, 4, 5], [2, 1, 0], [0, 0, 1], [0, 1, 2, 2], [0, 1, 2, 6, 7, 8], [0, 2, 11, 9, 10], [0, 2, 11, 7, 6], [0, 2, 6, 6]])
     cells = [NUMBERS if it == 0 else NAMES if it == 1 else PRICES if it == 2 else OTHERS[it - 3] for it in columns]
     rows = [[chance.choice(it[:5] if it is NUMBERS and chance.random() < 0.6 else it) for it in cells] for _ in range(chance.randrange(1, 7))]
     if chance.random() < 0.7:
@@ -106,7 +110,7 @@ def by_python(data):
     fixes, unused, passed, opened = [], [], [], []
     try:
         table = table_of(data, 2026)
-        articles, faults = articles_of(table, 2026)
+        articles, faults = articles_of(table, 2026, units=("kg", "100ml") if "content" in table.places else ())
         doubled = {record.line for record in table.records if table.cell(record, "gs1").strip()}
         # The page corrects a number only if nothing stands in the way of it.
         no_kind = _shop.said("noKind", "\0", "").partition("\0")[0]
@@ -116,7 +120,7 @@ def by_python(data):
         faults = sorted([*([table.question] if table.question else []), *faults])
     except Faults as error:
         articles, faults = [], sorted(error.faults)
-    told = [[it.line, it.kind.name.lower(), it.text, it.name, it.price, list(it.lines), it.copies] for it in articles]
+    told = [[it.line, it.kind.name.lower(), it.text, it.name, it.price, list(it.fields), list(it.lines), it.copies] for it in articles]
     return {"articles": told, "faults": [[it.line, plainly(it.said)] for it in faults], "fixes": fixes, "unused": unused, "passed": passed, "opened": opened}
 
 

@@ -10,9 +10,9 @@ globalThis.toldOf = async (bytes) => {
   try {
     const read = await fileRead(bytes);
     if (read.question) return { ...none, faults: [said({ line: 1, fault: read.question })] };
-    const table = tableOf(read), { question, unused, passed } = table, all = articlesOf(table);
+    const table = tableOf(read), { question, unused, passed } = table, all = articlesOf(table, { ...NOTHING_SAID, units: table.places.content ? ["kg", "100ml"] : [] });
     const articles = all.filter(({ fault }) => !fault)
-      .map(({ line, kind, text, name, price, lines, copies }) => [line, kind, text, name, price, lines, copies]);
+      .map(({ line, kind, text, name, price, fields, lines, copies }) => [line, kind, text, name, price, fields, lines, copies]);
     const faults = inOrder([...(question ? [question] : []), ...all.filter(({ fault }) => fault)].map(said));
     const fixes = all.filter(({ fault }) => fault?.isClear).map(({ line, fault }) => [line, fault.fixes[0]]);
     return { articles, faults, fixes, unused: unused.map(faultText), passed, opened: read.notes.map(faultText) };

@@ -1,9 +1,9 @@
 """Make labels from a list: names, prices and barcodes on label stock
 
 LIST is a CSV file or a spreadsheet, .xlsx or .ods. Its headings say which column is gtin (or ean, upc) or gs1, name,
-price, copies, kind (ean13, upca, ean8, upce, itf14 or gs1128) and line 1, line 2, .. in English, German, French, Spanish,
-Italian, Dutch or Polish; a column of numbers without such a heading is found by its cells. If lines have errors, each is
-reported with what to do, nothing is written, and the status is 1; --leave-out makes the labels of the others. If
+price, copies, kind (ean13, upca, ean8, upce, itf14 or gs1128), old price, price per kg, deposit, best before, batch and
+line 1, line 2, .. in English, German, French, Spanish, Italian, Dutch or Polish; a column of numbers without such a
+heading is found by its cells. If lines have errors, each is reported with what to do, nothing is written, and the status is 1; --leave-out makes the labels of the others. If
 several columns may be the price, the command asks, and --column price=HEADING answers. The end of FILE's name says the
 format: .pdf, .svg, .png, or .zpl, .epl, .tspl for a label printer. Print a PDF file at 100 %.
 
@@ -16,6 +16,7 @@ import sys
 from pathlib import Path
 from typing import TYPE_CHECKING, Callable, Dict, List, Sequence, Tuple
 
+from .._amounts import measure_of
 from .._shop import count_text, counted, said, told, translated
 from . import REFUSED, RIGHT, Progress, WrongWords, add_year, tell, write_files
 from ._lists import add_list, add_price, columns_of, name_of, read_list
@@ -48,6 +49,8 @@ def add_arguments(parser: argparse.ArgumentParser) -> None:
                         help="What is largest on a label that has a price: price or bars [default: price]")
     parser.add_argument("--turn", action="store_true", help="Turn the labels by 90 degrees on their stock")
     parser.add_argument("--currency", default="", metavar="SIGN", help="Sign to put behind prices without one, such as €")
+    parser.add_argument("--unit-price", type=_units, default=(), metavar="UNIT,..",
+                        help="Print the price of a unit, such as kg,l or 100g,100ml, by the column of the content")
     add_list(parser)
     add_price(parser)
     parser.add_argument("--leave-out", action="store_true",
@@ -65,6 +68,14 @@ def _length(word: str) -> float:
     if not 0.05 <= length <= 500:
         raise argparse.ArgumentTypeError(translated("{0!r} is no length in mm", word))
     return length
+
+
+def _units(word: str) -> List[str]:
+    units = word.split(",")
+    for unit in units:
+        if not measure_of(unit):
+            raise argparse.ArgumentTypeError(translated("{0!r} is no unit, such as kg, 100g or l", unit))
+    return units
 
 
 def _shift(word: str) -> Tuple[float, float]:
@@ -94,7 +105,7 @@ def run(words: argparse.Namespace) -> int:
     try:
         stock, fonts = shop.stock_of(words.stock), shop.fonts_of(words.font, words.bold)
         prices = shop.read_list(read_list(words), words.year, columns, encoding=words.encoding or "",
-                                currency=words.currency, is_free=words.free)
+                                currency=words.currency, is_free=words.free, units=words.unit_price)
         if not prices.faults and not any(article.copies for article in prices.articles):
             tell(f"{name}:1: {said('noLabels')}")
             return REFUSED

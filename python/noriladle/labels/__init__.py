@@ -12,14 +12,14 @@ All need a TrueType font, and PDF needs reportlab: ``pip install noriladle[label
 """
 from __future__ import annotations
 
-import re
 from dataclasses import dataclass, replace
 from typing import TYPE_CHECKING, Callable, Dict, Iterator, List, Mapping, NamedTuple, Optional, Sequence, Tuple, TypeVar
 
+from .._amounts import signed
 from .._columns import Table, table_of
 from .._lists import MOST_LINES, Fault, Faults
 from .._needs import FONT, REPORTLAB, sentence
-from .._shop import count_text, said, sentence_of_lines, translated
+from .._shop import count_text, said, sentence_of_lines, told, translated
 from ._articles import Article, articles_of
 from ._drawing import RESOLUTIONS, Drawing, Look, Warned, cell_of
 from ._fonts import Fonts, fonts_of
@@ -171,26 +171,31 @@ def _warning(name: str, found: Sequence[Tuple[Article, Warned]]) -> LabelWarning
 
 def read_list(
     data: bytes, year: int, columns: Optional[Mapping[str, str]] = None, *, encoding: str = "", currency: str = "",
-    is_free: bool = False
+    is_free: bool = False, units: Sequence[str] = ()
 ) -> PriceList:
     """The articles of a CSV file or a spreadsheet, and the errors of its other lines. ``columns`` names your own
     headings, such as ``{"name": "Ware"}``, or columns by their numbers from 1; ``{"price": ""}`` says that labels have
-    no price. The prices have the decimals of the currency; zero is a price if articles may be free.
+    no price. The prices have the decimals of the currency; zero is a price if articles may be free. With
+    ``units``, such as ``("100g", "l")``, labels show the price of one of them, by the column ``content``.
 
     :raises Faults: nobody can say what its columns are, or which of them is the price on the shelf.
     """
     table = table_of(data, year, columns, encoding, MOST_LINES)
     if table.question:
         raise Faults(sorted([table.question, *table.faults]))
-    articles, faults = articles_of(table, year, currency, is_free)
-    return PriceList(articles, faults, _notes(table, articles))
+    if units and "content" not in table.places:
+        raise Faults([Fault(1, told("by", said("noContents"), "--column content=4"))])
+    articles, faults = articles_of(table, year, currency, is_free, units)
+    return PriceList(articles, faults, _notes(table, articles, units))
 
 
-def _notes(table: Table, articles: Sequence[Article]) -> List[str]:
+def _notes(table: Table, articles: Sequence[Article], units: Sequence[str]) -> List[str]:
     """What a person should know of how a list was read."""
     unpriced = [article.line for article in articles if not article.price] if "price" in table.places else []
-    unused = [said("unused", ", ".join(table.unused))] if table.unused else []
-    return [*table.notes(), *unused, *sentence_of_lines("unpriced", unpriced)]
+    unmeasured = [article.line for article in articles if units and article.price and not article.fields[1]]
+    unused = [name for name in table.unused if not units or name != said("quoted", table.captions["content"])]
+    shown = [said("unused", ", ".join(unused))] if unused else []
+    return [*table.notes(), *shown, *sentence_of_lines("unpriced", unpriced), *sentence_of_lines("unmeasured", unmeasured)]
 
 
 def make(
@@ -208,7 +213,7 @@ def make(
         raise ValueError(translated("the first label is to be in one of the cells 1 to {0}, and not in {1}", stock.cells, start))
     if sum(article.copies for article in prices.articles) > MOST_LABELS:
         raise ValueError(translated("the list asks for more than {0} labels: split it", count_text(MOST_LABELS)))
-    articles = [_priced(article, currency) for article in prices.articles]
+    articles = [replace(it, price=signed(it.price, currency)) for it in prices.articles] if currency else prices.articles
     layout = Layout(cell_of(stock, look), fonts or fonts_of(), look, year, articles)
     items, faults = _each(articles, articles, layout.item, lambda done, of: progress(done, 2 * of))
     left = sorted([*prices.faults, *faults])
@@ -223,11 +228,6 @@ def make(
     return Labels(tuple(drawings), stock, look, start - 1, shift, tuple(left))
 
 
-def _priced(article: Article, currency: str) -> Article:
-    is_bare = bool(currency) and re.fullmatch(r"[\d.,' ]+", article.price)
-    return replace(article, price=f"{article.price}\xa0{currency}") if is_bare else article
-
-
 def _each(
     articles: Sequence[Article], given: Sequence[_Given], call: Callable[[_Given], _Made], progress: Progress
 ) -> Tuple[List[_Made], List[Fault]]:
@@ -238,5 +238,6 @@ def _each(
             made.append(call(one))
         except ValueError as error:
             faults.append(Fault(article.line, str(error)))
-        progress(done, len(articles))
+        if not done % 32:
+            progress(done, len(articles))
     return made, faults

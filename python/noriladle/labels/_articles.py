@@ -4,11 +4,12 @@ from __future__ import annotations
 import re
 import unicodedata
 from dataclasses import dataclass
-from typing import Dict, List, NamedTuple, Optional, Set, Tuple
+from typing import Dict, List, NamedTuple, Optional, Sequence, Set, Tuple
 
 from .. import Answer, Kind, Refusal
-from .._amounts import Amounts, price_like
+from .._amounts import UNIT, Amounts, amount_of, price_like
 from .._columns import Table
+from .._headings import FIELDS
 from .._lists import Fault, Record
 from .._shop import count_text, said
 from .._advice import remedy_of
@@ -37,13 +38,15 @@ class Article:
     price: str = ""
     lines: Tuple[str, ...] = ()
     copies: int = 1
+    fields: Sequence[str] = ()
+    """The old price, the price of a unit, the deposit, the day of best before and the batch, as a label shows them."""
 
 
 def articles_of(
-    table: Table, year: int, currency: str = "", is_free: bool = False
+    table: Table, year: int, currency: str = "", is_free: bool = False, units: Sequence[str] = ()
 ) -> Tuple[List[Article], List[Fault]]:
     """The articles of a table, and the errors of its other lines. The prices have the decimals of the currency; zero is
-    one if articles may be free."""
+    one if articles may be free. With units each has the price of one of them."""
     prices = [_line(table.cell(record, "price")) for record in table.records]
     amounts = Amounts(prices, table.heading, currency, is_free)
     widths, numbers = _Widths(table, amounts.point), _Numbers()
@@ -59,7 +62,7 @@ def articles_of(
         numbers.add(printed, _Noted(record.line, kind, said_of))
         try:
             widths.check(record)
-            articles.append(_article(table, record, (kind, printed, answer), amounts))
+            articles.append(_article(table, record, (kind, printed, answer), amounts, units))
         except ValueError as error:
             faults.append(Fault(record.line, str(error)))
     for record in table.lost:
@@ -167,7 +170,9 @@ def _number(table: Table, record: Record, year: int) -> Tuple[Kind, str, Answer]
     return _symbol(text, _kind(_plain(table.cell(record, "kind"))), year)
 
 
-def _article(table: Table, record: Record, number: Tuple[Kind, str, Answer], amounts: Amounts) -> Article:
+def _article(
+    table: Table, record: Record, number: Tuple[Kind, str, Answer], amounts: Amounts, units: Sequence[str]
+) -> Article:
     """The article of a record with this number. A missing cell counts as empty."""
     lines = tuple(_line(record.cells[place]) for place in table.places.get("line", ()) if place < len(record.cells))
     name, price = _plain(table.cell(record, "name")), _line(table.cell(record, "price"))
@@ -175,7 +180,38 @@ def _article(table: Table, record: Record, number: Tuple[Kind, str, Answer], amo
         raise ValueError(said("nameIsPrice", short(name)))
     copies = _copies(table.cell(record, "copies").strip())
     shown = amounts.printed(price) if price else ""
-    return Article(record.line, *number, name, shown, tuple(filter(None, lines)), copies)
+    fields = dict.fromkeys(FIELDS, "")
+    for meaning in filter(table.places.__contains__, FIELDS):
+        cell = _line(table.cell(record, meaning))
+        fields[meaning] = cell and _field(meaning, cell, table.captions.get(meaning, ""), shown, amounts)
+    content = _line(table.cell(record, "content")) if units else ""
+    if shown and content and not fields["unit-price"]:
+        unit = UNIT.search(table.captions["content"])
+        fields["unit-price"] = amounts.of_unit(shown, f"{content} {unit[0]}" if unit and not UNIT.search(content) else content, units)
+    return Article(record.line, *number, name, shown, tuple(filter(None, lines)), copies, tuple(fields.values()))
+
+
+def _field(meaning: str, cell: str, caption: str, price: str, amounts: Amounts) -> str:
+    """A field of a label as it shows it: the cell, behind the heading of its column if that says what it is.
+
+    :raises ValueError: nobody can say what it means.
+    """
+    if meaning == "old-price":
+        old = amounts.signed(cell)
+        if old and amount_of(old) <= amount_of(price):
+            raise ValueError(said("oldPrice", short(cell)))
+        return old
+    if meaning == "unit-price":
+        amount, unit = cell if UNIT.search(cell) and "=" in cell else amounts.signed(cell), UNIT.search(caption)
+        if amount and not UNIT.search(amount):
+            if not unit:
+                raise ValueError(said("noUnit", short(cell)))
+            amount += f"/{unit[0].strip()}"
+        return amount
+    if meaning == "best-before" and not re.search("[0-9].*[^0-9]|[^0-9].*[0-9]", cell):
+        raise ValueError(said("noDay", short(cell)))
+    text = amounts.signed(cell) if meaning == "deposit" else cell
+    return f"{caption} {text}".strip() if text else ""
 
 
 def _symbol(text: str, kind: Optional[Kind], year: int) -> Tuple[Kind, str, Answer]:

@@ -31,6 +31,7 @@ class Text(NamedTuple):
     base: float
     cell: float
     box: Box
+    is_struck: bool = False
 
     @property
     def wide(self) -> float:
@@ -93,13 +94,13 @@ class Drawing:
     width: int
     height: int
     dark: bytes = b""
-    """The bars of its symbol from the left, and then its bearers, each as ``struct gs1_part``, which takes less memory than objects."""
+    """The bars of its symbol from the left, then its bearers, and lines through old prices, each as ``struct gs1_part``, which takes less memory than objects."""
     texts: List[Text] = field(default_factory=list)
     warnings: List[Warned] = field(default_factory=list)
 
     @property
     def boxes(self) -> Sequence[Box]:
-        """Its bars and bearers."""
+        """Its bars, bearers and lines."""
         return [(left, top, width, height) for left, top, width, height in BOX.iter_unpack(self.dark)]
 
 

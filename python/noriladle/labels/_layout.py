@@ -20,7 +20,7 @@ _STRIP_MM = 6.0
 _UP, _DOWN, _OVERSHOOT = 0.9, 0.22, 0.02
 """How far most letters go up above their base line and down below it, and round digits below it, in sizes."""
 _MOST_PARTS, _ROW = 400, 8192
-_BAR, _LETTERS, _LINES, _CUT, _BOLD = 0, 2, 7, 1, 2
+_BAR, _LETTERS, _LINES, _CUT, _BOLD, _STRUCK = 0, 2, 7, 1, 2, 4
 _NO_SYMBOL, _TOO_WIDE, _NO_MODULE = 26, 27, 52
 _SAID = {53: "noBars", 54: "noPlace", 55: "noHeight", 56: "manyFurther"}
 """The errors of labels by their numbers in gs1.h, and what is said of them in shop/."""
@@ -87,7 +87,7 @@ class Layout:
             raise ValueError(told("notSet", ", ".join(map(repr, lacking[:5])), self._fonts.bold.name))
         number = article.text.encode("ascii")
         lent = _Article(_Lent(number, len(number)), kind=article.kind.value, bearers=self._bearers)
-        for place, text in zip((0, 1, _LINES), texts):
+        for place, text in enumerate(texts):
             lent.texts[place] = _Lent(text.encode("utf-32-le"), len(text))
         measure = _Measure()
         self._check(_library.gs1_measure(_at(self._look), _at(lent), self._terms, _at(measure)), article)
@@ -124,7 +124,7 @@ class Layout:
         """Puts parts into a drawing, with a warning of each text that is cut."""
         behind = _PART.size * parts[_INK::_PART.size].count(_BAR)
         drawing.dark = parts[:behind]
-        texts = dict(zip((0, 1, _LINES, 8), (*_texts(article), _symbol(article, self._year).text)))
+        texts = (*_texts(article), _symbol(article, self._year).text)
         for left, top, wide, high, *letters in _PART.iter_unpack(parts[behind:]):
             field, first, count, ink, flags, size, start, base, step = letters
             if ink != _LETTERS:
@@ -135,9 +135,11 @@ class Layout:
                 begin = texts[field].rfind("\n", 0, first) + 1 if field == _LINES else 0
                 text += "…"
                 drawing.warnings.append(Warned("cut", (f"{' '.join(texts[field][begin:first + count].split())}…",)))
+            if flags & _STRUCK:
+                drawing.dark += BOX.pack(left, top + high // 2, wide, max(1, high // 14))
             # Letters such as j begin left of their origin.
             start += max(0.0, -size * font.ink(text[0]).left)
-            drawing.texts.append(Text(text, font, size / 64, start / 64, base / 64, step / 64, (left, top, wide, high)))
+            drawing.texts.append(Text(text, font, size / 64, start / 64, base / 64, step / 64, (left, top, wide, high), bool(flags & _STRUCK)))
 
     def _check(self, fault: int, article: Article) -> None:
         """Raises the error of this number, with what to do."""
@@ -162,9 +164,9 @@ def _at(lent: ctypes.Structure) -> object:
     return ctypes.byref(lent)
 
 
-def _texts(article: Article) -> Tuple[str, str, str]:
-    """The texts of a label: its name, its price and its further lines."""
-    return article.name, article.price, "\n".join(article.lines)
+def _texts(article: Article) -> Sequence[str]:
+    """The texts of a label by their numbers in gs1.h: its name, its price, its fields and its further lines."""
+    return article.name, article.price, *(article.fields or [""] * 5), "\n".join(article.lines)
 
 
 def _lent_font(font: Font, letters: Set[str]) -> _Font:

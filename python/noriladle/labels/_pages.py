@@ -38,7 +38,7 @@ def _svg_label(placed: Placed, turned: bool) -> str:
 
 
 def _svg_text(text: Text) -> str:
-    bold = ' font-weight="bold"' if text.font.is_bold else ""
+    bold = ' font-weight="bold"' if text.font.is_bold else ' class="struck"' if text.is_struck else ""
     places = " ".join(f"{middle:.2f}" for _, middle in text.pieces())
     where = f'x="{places}" text-anchor="middle"'
     if not text.cell:
