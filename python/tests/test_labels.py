@@ -1,6 +1,8 @@
 """Labels of lists: what is refused, what is drawn, and what the files say. Readers of other makes: tests/labels/run."""
 import io
 import re
+from copy import copy
+from dataclasses import replace
 
 import pytest
 
@@ -8,9 +10,10 @@ pytest.importorskip("reportlab")
 
 import noriladle
 from noriladle import Kind, find_dots, label_symbol, labels
-from noriladle.labels import Faults, Look, make, read_list, stock_of
+from noriladle.labels import Faults, Look, fonts_of, make, read_list, stock_of
 from noriladle.labels._dots import Image as Dots
 from noriladle.labels._dots import _zpl_row, image_of
+from noriladle.labels._letters import dots_of
 from PIL import Image
 
 LIST = "ean;name;price;copies\n9501101530003;Müsli;1,95 €;\n96385074;Kaugummi;0,90 €;3\n012345000065;Cola;1,10 €;0\n".encode()
@@ -74,7 +77,7 @@ def test_no_stock(name, told):
     ("gtin,kind\n9501101530003,upce\n", 2, "refused 26 LabelKind 0: print it as another kind"),
     ("gtin,kind\n96385074,upce\n", 2, "refused 26 LabelKind 0: print it as another kind"),
     ("gtin\n01234565\n", 2, "may be a GTIN-8 or a UPC-E"),
-    ("gtin,name\n96385074,\u4e2d\n", 2, "'中' cannot be set"),
+    ("gtin,name\n96385074,\U000f1234\n", 2, "'\\U000f1234' cannot be set"),
     ("gtin,name\n96385074,שלום\n", 2, "from right to left"), ("gtin,name\n96385074,\u0301\n", 2, "cannot be set"),
     ("gs1\n(01)09501101530003(17)261331\n", 2, "refused 9 ValueDate 17: at (17)261331: write YYMMDD"),
     ("gs1\n(01)09501101530003(10)A(B)C\n", 2, "parentheses stand around Application Identifiers alone"),
@@ -216,6 +219,17 @@ def test_letters_lie_in_their_rectangles():
                 inside.write(text._replace(box=(left - 1, top - 1, width + 2, height + 2)))
                 outside.write(text._replace(box=(0, 0, drawing.width, drawing.height)))
                 assert any(inside.rows) and inside.rows == outside.rows, text
+
+
+def test_letters_that_a_font_lacks_come_from_the_next():
+    fonts = fonts_of()
+    poor = replace(fonts.bold, widths=copy(fonts.bold.widths), borrowed={})
+    del poor.widths["Ż"]
+    (_, drawing), = made("gtin,name\n96385074,Żur\ufe0f\n".encode(), "57x32", fonts=fonts._replace(bold=poor)).drawings
+    name, = [text for text in drawing.texts if text.text == "Żur"]
+    paths = [name.font.path_of(letter) for letter in name.text]
+    assert paths == [fonts.regular.path, fonts.bold.path, fonts.bold.path] and name.font.ink("Ż").top > name.font.ink("u").top
+    assert name.wide < name.box[2] + 1 and dots_of(paths[0], "Ż", name.size).rows
 
 
 def test_files():

@@ -100,6 +100,8 @@ def labels(person, stocks):
         is_roll, first = stock == "57x32", 1 if stock == "57x32" else 2
         person.chooses("stock", stock)
         person.chooses("dpi", "600" if dpi == 600 else "0")
+        # Small labels have no room for a large price.
+        person.chooses("look", "bars" if stock == "L7651" else "price")
         if not is_roll:
             browser.fill("#first", "2")
         sheets = person.page("onRoll") if is_roll else person.page("onSheets1")

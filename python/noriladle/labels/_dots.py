@@ -42,7 +42,7 @@ class Image:
         for piece, middle in text.pieces():
             at = middle - text.font.width(piece, text.size) / 2
             for letter in piece:
-                dots = dots_of(text.font.path, letter, text.size)
+                dots = dots_of(text.font.path_of(letter), letter, text.size)
                 self.put(dots.width, dots.rows, round(at) + dots.left, round(text.base) - dots.top, text.box)
                 at += text.font.width(letter, text.size)
 

@@ -3,11 +3,12 @@ from __future__ import annotations
 
 import importlib.util
 import os
+import re
 import unicodedata
 from dataclasses import dataclass, field
 from functools import lru_cache
 from pathlib import Path
-from typing import Dict, List, NamedTuple, Optional, Tuple
+from typing import Dict, List, NamedTuple, Optional, Set, Tuple
 
 from .._shop import translated
 from ._letters import Ink, ink_of
@@ -30,13 +31,33 @@ class Font:
     is_bold: bool
     widths: "_Widths" = field(hash=False, compare=False, repr=False)
     """The widths of its characters in size 1."""
+    borrowed: Dict[str, Path] = field(default_factory=dict, hash=False, compare=False, repr=False)
+    """The characters that it lacks, with the files of other fonts that have them."""
+
+    def borrow(self, letters: Set[str]) -> None:
+        """Takes each of these characters that it lacks from the first installed font that has it."""
+        missing = {letter for letter in letters if letter not in self.widths}
+        for path in _others() if missing else ():
+            try:
+                widths = metrics_of(path).widths
+            except (NoFont, OSError):
+                continue
+            self.borrowed.update({letter: path for letter in missing & widths.keys()})
+            self.widths.update({letter: widths[letter] for letter in missing & widths.keys()})
+            missing -= widths.keys()
+            if not missing:
+                return
+
+    def path_of(self, letter: str) -> Path:
+        """The file that has a character."""
+        return self.borrowed.get(letter, self.path)
 
     def ink(self, letter: str) -> Ink:
         """Where a letter has ink, in size 1.
 
         :raises NoFont: it is damaged.
         """
-        return ink_of(self.path, letter)
+        return ink_of(self.path_of(letter), letter)
 
     def width(self, text: str, size: float = 1.0) -> float:
         """How wide a text is in the unit of its size."""
@@ -81,12 +102,28 @@ def fonts_of(regular: Optional[str] = None, bold: Optional[str] = None) -> Fonts
         raise ValueError(translated("this is no TrueType font: {0}", error)) from error
 
 
-def _found() -> List[Path]:
+@lru_cache(maxsize=1)
+def _others() -> List[Path]:
+    """All installed fonts, those of the usual pairs first, and upright ones before others."""
+    usual = [name for pair in _USUAL for name in pair]
+    slanted = re.compile("bold|italic|oblique|mono|light|thin|black", re.IGNORECASE)
+    rank = {name: at for at, name in enumerate(usual)}
+    return [path for name, path in sorted(_installed().items(), key=lambda it: (rank.get(it[0], 99), bool(slanted.search(it[0])), it[0]))
+            if name[-4:].lower() in (".ttf", ".ttc")]
+
+
+def _installed() -> Dict[str, Path]:
+    """All files of fonts by their names."""
     there: Dict[str, Path] = {}
     for folder in (*_FOLDERS, *_of_reportlab()):
         for inside, _, names in os.walk(os.path.expanduser(folder)):
             for name in names:
                 there.setdefault(name, Path(inside, name))
+    return there
+
+
+def _found() -> List[Path]:
+    there = _installed()
     for pair in _USUAL:
         if all(name in there for name in pair):
             return [there[name] for name in pair]

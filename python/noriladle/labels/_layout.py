@@ -68,7 +68,9 @@ class Layout:
         self._cell, self._fonts, self._bearers, self._is_price_first = cell, fonts, look.bearers, look.is_price_first
         self._year, self._terms = year, _terms(year, "all")
         letters = set("… ").union(*(text for article in articles for text in (*_texts(article), article.answer.text)))
-        self._lacking = set(fonts.bold.lacks("".join(letters)))
+        for font in fonts:
+            font.borrow(letters - {"\n"})
+        self._lacking = {letter for font in fonts for letter in font.lacks("".join(letters))}
         lent_fonts = (_Font * 2)(*(_lent_font(font, letters) for font in fonts))
         self._look = _Look(cell.aside, cell.above, cell.dots, look.module_mm or 0, look.bars_mm or 0,
                            cell.width, cell.height, look.is_price_first, lent_fonts)
@@ -84,7 +86,7 @@ class Layout:
         texts = _texts(article)
         lacking = sorted(self._lacking.intersection("".join(texts)))
         if lacking:
-            raise ValueError(told("notSet", ", ".join(map(repr, lacking[:5])), self._fonts.bold.name))
+            raise ValueError(told("notSet", ", ".join(map(repr, lacking[:5]))))
         number = article.text.encode("ascii")
         lent = _Article(_Lent(number, len(number)), kind=article.kind.value, bearers=self._bearers)
         for place, text in enumerate(texts):
@@ -166,7 +168,9 @@ def _at(lent: ctypes.Structure) -> object:
 
 def _texts(article: Article) -> Sequence[str]:
     """The texts of a label by their numbers in gs1.h: its name, its price, its fields and its further lines."""
-    return article.name, article.price, *(article.fields or [""] * 5), "\n".join(article.lines)
+    texts = article.name, article.price, *(article.fields or [""] * 5), "\n".join(article.lines)
+    # How an emoji is to look is no letter.
+    return [text if text.isascii() else text.replace("\ufe0f", "") for text in texts]
 
 
 def _lent_font(font: Font, letters: Set[str]) -> _Font:
