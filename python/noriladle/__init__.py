@@ -847,7 +847,7 @@ def conflicts(elements: Iterable[Element]) -> List[Conflict]:
     text, places = listed.__dict__.get("_told") or _told_of(listed.elements)
     raw, found = _RawAnswer(), _RawConflicts()
     _HEAD.pack_into(raw, 0, 0, _NO_PLACE, 0, len(places) // _PLACE.size, len(text), 255, b"", text.encode("ascii", "replace"))
-    raw[_HEAD.size:_HEAD.size + len(places)] = places
+    ctypes.memmove(ctypes.byref(raw, _HEAD.size), places, len(places))
     count = _library.gs1_conflicts(raw, found, _MOST_CONFLICTS)
     return [_conflict(listed.elements, *_CONFLICT.unpack_from(found, _CONFLICT.size * at)) for at in range(count)]
 
