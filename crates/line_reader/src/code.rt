@@ -227,7 +227,7 @@ impl<'a> Rest<'a> {
         for (number, character) in reading.characters.iter_mut().enumerate().take(count) {
             let inner = inner_at(self.ends, number.saturating_mul(6));
             let found = nearest(&inner, ink, 0, 106);
-            if is_over(found.misfit, 9, start.sure) {
+            if is_over(found.misfit, 13, start.sure) {
                 return None;
             }
             *character = found.character;

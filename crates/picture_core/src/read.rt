@@ -4,7 +4,7 @@ ghost use Rattle.picture_core.specs.Saids.{IsRefusal};
 ghost use Rattle.picture_core.specs.Told.{IsReadingOf};
 
 use crate::bands::read_own_rows;
-use crate::level::level_of;
+use crate::level::{level_of, middle_level};
 use crate::look::{LOOKS, read_patch};
 use crate::patch::take_patch;
 use crate::picture::Picture;
@@ -87,7 +87,7 @@ fn read_stripes(
             }
             let count = take_patch(blocks, first, number, queue).min(queue.len());
             let patch = &queue[..count];
-            let is_small = before >= FIRST_LOOKS || count < most / 2;
+            let is_small = before >= FIRST_LOOKS || count < most;
             if count < FEWEST_BLOCKS || (is_found && is_small && !blocks.shows_part(first)) {
                 leave_patch(blocks, patch);
                 continue;
@@ -143,7 +143,7 @@ pub fn read_picture(picture: &Picture, reading: Reading, room: &mut Room, shown:
     requires { picture.now.width ≤ room.old.width }
     ensures { IsReadingOf picture.now reading.level reading.year shown.new }
 {
-    let level = level_in(picture, reading.level);
+    let mut level = level_in(picture, reading.level);
     let reader = Reader {
         picture: &*picture,
         level,
@@ -162,6 +162,12 @@ pub fn read_picture(picture: &Picture, reading: Reading, room: &mut Room, shown:
             shown,
             &mut furthest,
         );
+    }
+    // Where bars are as narrow as dots, most dots are neither dark nor light.
+    if reading.level.is_none() && shown.found == 0 {
+        level = middle_level(picture);
+        let reader = Reader { level, ..reader };
+        read_own_rows(&reader, room.widths, shown, &mut Furthest::none());
     }
     tell(
         picture,
