@@ -19,6 +19,7 @@ from .live import Hub, Lane, Reply
 
 SECONDS = 2.0
 """How long a scan may wait for its answer. Then it is unread, so the next customer does not get its answer."""
+_LATE = f"unread: no answer in {SECONDS:g} seconds"
 BEAT = 5.0
 """How many seconds lie between two lines that say that the gateway is there, in form 2."""
 LAST = 999_999_999_999_999
@@ -188,9 +189,8 @@ class ScanLane:
                 self._timer = loop.call_at(asked.since + SECONDS, self._expire)
                 return
             asked.reply.cancel()
-            said = f"unread: no answer in {SECONDS:g} seconds"
-            self._keep(number, asked, said)
-            self._send(number, asked, said, True)
+            self._keep(number, asked, _LATE)
+            self._send(number, asked, _LATE, True)
 
     def _answered(self, number: int, asked: _Asked, reply: "asyncio.Future[Reply]") -> None:
         """The hub has answered. If there is a journal, it gets the answer first. Answers come in the order of the scans."""
@@ -214,7 +214,10 @@ class ScanLane:
             self._send(number, asked, f"unread: {why}" if why else said, bool(why or asked.unread))
 
     def _send(self, number: int, asked: _Asked, said: str, is_unread: bool) -> None:
-        """Sends a scan's answer to the scanner and the tills."""
+        """Sends a scan's answer to the scanner and the tills, unless it is late: the gateway may have slept."""
+        seconds = asyncio.get_running_loop().time() - asked.since
+        if seconds > SECONDS and not is_unread:
+            said, is_unread = _LATE, True
         del self._waiting[number]
         self.next = number + 1
         self.unread += is_unread
@@ -224,7 +227,7 @@ class ScanLane:
             self._tell(number, said, asked.time)
         self._make_room()
         if not is_unread:
-            self.seen(said, asyncio.get_running_loop().time() - asked.since)
+            self.seen(said, seconds)
 
     def _tell(self, number: int, said: str, at: Optional[float] = None) -> None:
         for form in {it.form for it in self.watchers}:

@@ -166,8 +166,10 @@ def test_a_gateway_that_is_killed_stopped_and_short_of_disk(tmp_path):
     shop = Shop(gateway.unix, "till-1")
     begin, kinds = time.monotonic(), ["kill", "stop", "short"] * (times // 3)
     chance.shuffle(kinds)
+    seen = 0
     for number, kind in enumerate(kinds):
-        while shop.sent < (number + 1) * SCANS // (times + 1):
+        # Each fault is by itself: the till sees answers after the one before.
+        while shop.sent < (number + 1) * SCANS // (times + 1) or len(shop.saw) <= seen:
             assert time.monotonic() < begin + 420 * PARTS
             time.sleep(0.02)
         if kind == "stop":
@@ -182,6 +184,7 @@ def test_a_gateway_that_is_killed_stopped_and_short_of_disk(tmp_path):
             gateway.process.kill()
             gateway.process.communicate()
             gateway.process = Gateway(tmp_path, "--journal", str(folder), port=False).process
+        seen = len(shop.saw)
     while shop.sent < SCANS:
         assert time.monotonic() < begin + 440 * PARTS
         time.sleep(0.02)
@@ -198,7 +201,8 @@ def test_a_gateway_that_is_killed_stopped_and_short_of_disk(tmp_path):
     oldest = max(age for said, age in shop.saw.values() if not said.startswith("unread: "))
     print(f"\nseed {SEED}: {shop.sent} scans in {time.monotonic() - begin:.0f} s, {times} faults: a till saw {len(told)} answers, each in the journal, "
           f"once; the oldest was {oldest:.1f} s old; {len(answers)} records; {shop.unread} unread")
-    assert len(told) > SCANS // 2 and oldest < 5 and "Traceback" not in said
+    # A disk that is short refuses scans as fast as they come, which may be most of them; a gateway that is killed leaves a window.
+    assert len(told) > max(0.9 * (shop.sent - shop.unread), SCANS // 5) and oldest < 5 and "Traceback" not in said
 
 
 def fill(folder):

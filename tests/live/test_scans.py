@@ -1,4 +1,5 @@
 """From scanner to till: six scanners, six tills and one gateway, whatever comes and goes. Needs pgrep."""
+import asyncio
 import itertools
 import os
 import random
@@ -13,7 +14,9 @@ import pytest
 
 from gateway_and_scanners import Client, Gateway, Serial, Till
 from noriladle._gateway import UNREAD_LINES
+from noriladle._scans import Listener, ScanLane
 from noriladle.commands.scanner import _checked
+from noriladle.live import Reply
 from program_and_rows import SEED, noise
 
 LIMIT = 500
@@ -277,6 +280,22 @@ def test_an_answer_that_comes_late_is_not_told(gateway, stalled):
         while told[-1] != f"1 {GUM}\n":
             told.append(till.line())
         assert set(told[:-1]) <= {"0 unread: no answer in 2 seconds\n", "1 next\n"} and len(told) > 1
+
+
+def test_an_answer_that_the_gateway_had_before_it_slept():
+    """It is told to nobody, though the loop comes to it before it gives up the scan."""
+    async def test():
+        reply, told = asyncio.get_running_loop().create_future(), []
+        lane = ScanLane("till-1", type("Asked", (), {"ask": lambda self, text: reply})())
+        lane.watch(Listener(told.append))
+        lane.begin(lane.join())
+        lane.scan(0, EAN8)
+        time.sleep(2.1)
+        reply.set_result(Reply(0, None, GUM, 0))
+        await asyncio.sleep(0.1)
+        assert told == ["0 next\n", "0 unread: no answer in 2 seconds\n"] and lane.unread == 1
+
+    asyncio.run(test())
 
 
 def test_a_scan_has_two_seconds_whatever_its_program_does(gateway):
