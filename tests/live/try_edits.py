@@ -14,10 +14,12 @@ with more of the last three if it changes several places. Tests that exceed thei
 """
 from __future__ import annotations
 
+import contextlib
 import os
 import re
 import shlex
 import shutil
+import signal
 import subprocess
 import sys
 import tempfile
@@ -70,17 +72,19 @@ class Edit:
                 Path(folder, path).write_text(text)
             words = ["timeout", "-s", "INT", "-k", "10", SECONDS, sys.executable, "-m", "pytest", "-q", "-x", f"--basetemp={folder}/tmp"]
             paths = os.pathsep.join([f"{folder}/python", f"{folder}/tests/live"])
-            ran = subprocess.run(
-                [*words, *shlex.split(self.test)], cwd=folder, env={**os.environ, "PYTHONPATH": paths, "SCANS": "6000", "JOURNAL_SCANS": "6000", "REPOSITORY": str(ROOT)}, stdin=subprocess.DEVNULL,
-                capture_output=True, text=True,
-            )
+            more = {"PYTHONPATH": paths, "SCANS": "6000", "JOURNAL_SCANS": "6000", "REPOSITORY": str(ROOT)}
+            with subprocess.Popen([*words, *shlex.split(self.test)], cwd=folder, env={**os.environ, **more}, stdin=subprocess.DEVNULL,
+                                  stdout=subprocess.PIPE, stderr=subprocess.PIPE, text=True, start_new_session=True) as tests:
+                out, error = tests.communicate()
+                with contextlib.suppress(ProcessLookupError):
+                    os.killpg(tests.pid, signal.SIGKILL)  # Services that a test has left when it failed.
         # If a test passed and then had an error, a service wrote to standard error.
-        wrong = " failed" in ran.stdout or (" passed" in ran.stdout and " error" in ran.stdout)
-        is_late = ran.returncode in (124, 137, -9)
-        found = ran.returncode == 1 and wrong or is_late
+        wrong = " failed" in out or (" passed" in out and " error" in out)
+        is_late = tests.returncode in (124, 137, -9)
+        found = tests.returncode == 1 and wrong or is_late
         print(f"{'found' if found else 'MISSED'}: {self.name}{', by its time' if is_late else ''}", flush=True)
         if not found:
-            print(ran.stdout[-500:] + ran.stderr[-500:], file=sys.stderr)
+            print(out[-500:] + error[-500:], file=sys.stderr)
         return found
 
 
