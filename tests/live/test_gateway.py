@@ -348,6 +348,7 @@ def test_log(tmp_path):
     ("lanes = \n", ": Invalid value (at line 1"),
     ("[gateway]\nlanes = 3\n", ":1: there is no option 'gateway'"),
     ("token = 'abc'\n", ":1: there is no option 'token'"),
+    ("config = 'other.toml'\n", ":1: there is no option 'config'"),
     ("rights = 'all'\n", ":1: rights: it is a table of texts"),
     ("[rights]\n'user anna' = 3\n", ":1: rights: it is a table of texts"),
     ("[rights]\n\nanna = 'rows'\n", ":3: anna: who is \"anyone\", \"user NAME\""),

@@ -13,7 +13,7 @@ import pytest
 
 import noriladle
 from gateway_and_scanners import NORILADLE, ROW, Client, Gateway
-from program_and_rows import READ
+from program_and_rows import PROGRAM, READ
 from test_gateway import page
 
 LIMIT = 120
@@ -36,6 +36,15 @@ def test_a_hub_that_is_stopped_is_not_ready(gateway):
     os.kill(gateway.hub(), signal.SIGCONT)
     assert page(gateway, "/readyz") == (200, "ready\n")
     gateway.waits_for(ready=1)
+
+
+def test_a_hub_whose_answers_are_wrong_is_not_ready(tmp_path, monkeypatch):
+    hub = tmp_path / "gs1_hub"
+    hub.write_text(f"#!/bin/sh\n{shutil.which(PROGRAM)} \"$@\" | sed -u s/09501101530003/09501101530010/\n")
+    hub.chmod(0o755)
+    monkeypatch.setenv("GS1_HUB", str(hub))
+    with Gateway(tmp_path, "--metrics", "0", port=False) as gateway:
+        assert page(gateway, "/readyz") == (503, "the hub answers ]E0 (01)09501101530010 to ]E09501101530003\n")
 
 
 def test_the_oldest_scan_of_each_lane(gateway):

@@ -146,7 +146,7 @@ def test_spare_places_of_all_users(open_folder):  # noqa: F811
 
 def test_scanners_have_a_place_when_there_is_no_other(tmp_path):
     """Though one user has taken every place; whatever else comes is told why not."""
-    with Gateway(tmp_path, "--connections", "8", "--each", "8", port=False) as gateway:
+    with Gateway(tmp_path, "--connections", "8", "--each", "8", "--metrics", "0", port=False) as gateway:
         time.sleep(0.5)
         tills = [gateway.watch("till-1") for _ in range(8)]
         with gateway.unix_client() as late:
@@ -165,6 +165,7 @@ def test_scanners_have_a_place_when_there_is_no_other(tmp_path):
             assert late.ask(b"scan lane-99\n") == "0 next\n"
         for client in (*tills, *scanners, *silent):
             client.__exit__()
+        gateway.waits_for(connections=0)
 
 
 def test_tcp_leaves_places_to_the_unix_socket(tmp_path):

@@ -15,6 +15,7 @@ import pytest
 from gateway_and_scanners import NORILADLE, ROW, Client, Gateway, Serial
 from noriladle._log import Writer
 from program_and_rows import READ
+from test_rights import rights
 
 LIMIT = 150
 COUNT = 1_500
@@ -134,6 +135,16 @@ def test_levels_for_journald(tmp_path, monkeypatch):
     assert said and all(re.match("<6>(connected|closed) peer=", line) for line in said)
     gateway.process.terminate()
     gateway.process.communicate(timeout=20)
+
+
+def test_what_a_client_sends_ends_no_line_of_the_log(tmp_path):
+    """Nor does it reach the terminal of who reads it."""
+    gateway = Gateway(tmp_path, "--log", "all", *rights(tmp_path, '"user 4711" = "rows"'))
+    with gateway.unix_client() as client:
+        assert client.ask(b"watch a\x1b[2J\r 2026-01-01T00:00:00.000Z the hub has ended\n").startswith("closed: no right to watch a")
+    gateway.process.terminate()
+    lines = gateway.process.communicate(timeout=20)[1].split("\n")
+    assert all(re.fullmatch("[ -~]*", line) for line in lines) and [line[25:].split(" ")[0] for line in lines if "2026-01-01" in line] == ["closed"]
 
 
 def test_a_line_that_is_taken_in_parts():

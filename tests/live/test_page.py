@@ -142,9 +142,20 @@ def test_what_a_reload_changes(tmp_path):
 
 
 def test_the_form_of_a_page(gateway):
-    """It has the time if the page says form=2, and no other word."""
-    assert re.fullmatch(r"- \d+\.\d{3} next -", told(gateway, "/till-1?form=2"))
+    """It has the time if the page says form=2, and no other word. The lane's name may be quoted."""
+    for lane in ("till-1", "till%2D1"):
+        assert re.fullmatch(r"- \d+\.\d{3} next -", told(gateway, f"/{lane}?form=2"))
     assert [told(gateway, f"/till-1{words}") for words in ("", "?form=1", "?form=3", "?form=2&form=2")] == ["it waits"] * 4
+
+
+def test_a_page_stays(gateway):
+    """It has five seconds to ask for its lane, and then as long as it likes."""
+    async def test():
+        async with websockets.connect(f"ws://127.0.0.1:{gateway.ports['web']}/till-1?form=2") as page:
+            for _ in range(3):
+                assert re.fullmatch(r"- \d+\.\d{3} next -", await page.recv())
+
+    asyncio.run(asyncio.wait_for(test(), 30))
 
 
 def test_a_page_that_has_gone_is_forgotten():

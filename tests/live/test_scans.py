@@ -215,7 +215,11 @@ def test_two_scanners_on_a_lane(gateway):
             # Its scans in vain are reported as lost when it has the lane.
             assert till.line() == "2 next\n"
             second.send(EAN8 + b"\r")
-            assert till.line() == f"2 {GUM}\n"
+            assert till.line() == second.line() == f"2 {GUM}\n"
+            # It has told what was lost, so it ends at once.
+            begin = time.monotonic()
+            second.unplug()
+            assert second.ended()[2] == 0 and time.monotonic() - begin < 2
 
 
 def test_no_gateway(tmp_path):
@@ -280,6 +284,22 @@ def test_an_answer_that_comes_late_is_not_told(gateway, stalled):
         while told[-1] != f"1 {GUM}\n":
             told.append(till.line())
         assert set(told[:-1]) <= {"0 unread: no answer in 2 seconds\n", "1 next\n"} and len(told) > 1
+
+
+def test_an_answer_that_waited_while_the_scanner_slept(gateway):
+    """Its program prints and types nothing of it."""
+    with plug(gateway, "till-1") as scanner:
+        scanner.send(EAN8 + b"\r")
+        assert scanner.line() == f"0 {GUM}\n"
+        hub = gateway.hub()
+        os.kill(hub, signal.SIGSTOP)
+        scanner.send(EAN8 + b"\r")
+        time.sleep(0.3)
+        scanner.process.send_signal(signal.SIGSTOP)
+        os.kill(hub, signal.SIGCONT)
+        time.sleep(3)
+        scanner.process.send_signal(signal.SIGCONT)
+        assert scanner.line() == "1 unread: no answer in 2 seconds\n"
 
 
 def test_an_answer_that_the_gateway_had_before_it_slept():

@@ -188,7 +188,7 @@ async def _run(hub: Hub, words: argparse.Namespace) -> str:
         gateway = Gateway(hub, words.idle, _kept(words), Places(words.connections, words.each), log, metrics, words.rights)
         if words.journal:
             gateway.scans.journal = Journal(words.journal, words.journal_most << 20, words.journal_full == "go-on", log, metrics)
-        health = Health(lambda: _trip(gateway, ended), metrics)
+        health = Health(gateway.trip, metrics)
         servers = await _listen(gateway, words, health)
         _tell_of_certificate(words.tls, log)
         helpers = [asyncio.ensure_future(it) for it in (gateway.sweep(), gateway.scans.beat(), health.keep(), _service.keep_alive(lambda: hub.lane(0).read("")),
@@ -210,10 +210,6 @@ async def _run(hub: Hub, words: argparse.Namespace) -> str:
             with contextlib.suppress(FileNotFoundError):
                 os.unlink(words.unix)
     return why
-
-
-async def _trip(gateway: Gateway, ended: "asyncio.Future[Any]") -> str:
-    return "the gateway stops" if ended.done() else await gateway.trip()
 
 
 def _kept(words: argparse.Namespace) -> int:
