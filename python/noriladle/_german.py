@@ -62,6 +62,14 @@ TEXTS: Dict[str, str] = {
     "Turn the labels by 90 degrees on their stock": "Den Inhalt der Etiketten um 90 Grad drehen",
     "Sign to put behind prices without one, such as €": "Zeichen hinter Preisen, die keines haben, etwa €",
     "Make labels without a price": "Etiketten ohne Preis machen",
+    "Darkness that .zpl asks for, 0 to 30 [default: as the printer is set]":
+        "Schwärzung, die .zpl verlangt, 0 bis 30 [sonst: wie am Drucker eingestellt]",
+    "Inches a second that .zpl asks for, 1 to 14 [default: as the printer is set]":
+        "Zoll je Sekunde, die .zpl verlangt, 1 bis 14 [sonst: wie am Drucker eingestellt]",
+    "What .zpl says of the roll: it has gaps, marks, or is continuous [default: as the printer is set]":
+        "Was .zpl von der Rolle sagt: mit Lücken, Marken oder endlos [sonst: wie am Drucker eingestellt]",
+    "--darkness, --speed and --media are for .zpl: leave them out":
+        "--darkness, --speed und --media sind für .zpl: bitte weglassen",
     "Print the price of a unit, such as kg,l or 100g,100ml, by the column of the content":
         "Den Grundpreis drucken, etwa für kg,l oder 100g,100ml, aus der Spalte des Inhalts",
     "{0!r} is no unit, such as kg, 100g or l": "{0!r} ist keine Einheit wie kg, 100g oder l",

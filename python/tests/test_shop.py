@@ -139,7 +139,7 @@ def test_wrong_words(words, said, folder, capsys):
 # ---- labels
 
 @pytest.mark.parametrize("form, begins", [
-    ("pdf", b"%PDF-"), ("svg", b"<svg "), ("png", b"\x89PNG"), ("zpl", b"^XA"), ("epl", b"\nN\n"), ("tspl", b"SIZE 70 mm,37 mm")])
+    ("pdf", b"%PDF-"), ("svg", b"<svg "), ("png", b"\x89PNG"), ("zpl", b"~DG"), ("epl", b"\nN\n"), ("tspl", b"SIZE 70 mm,37 mm")])
 def test_labels_in_each_form(form, begins, folder, capsys):
     pytest.importorskip("reportlab")
     save("a.csv", LIST)

@@ -200,15 +200,22 @@ def try_sheet(name, stock, dpi, start, *options):
 # ---- the languages of label printers, by readers of their own
 
 def zpl_pictures(data):
-    """The labels of ZPL: each is one picture of dots (ZPL II Programming Guide, ^GF, and its alternative data compression)."""
-    for form in re.findall(r"\^XA(.*?)\^XZ", data.decode("ascii"), re.DOTALL):
-        width, height = int(re.search(r"\^PW(\d+)", form)[1]), int(re.search(r"\^LL(\d+)", form)[1])
-        total, size, wide, told = re.search(r"\^FO0,0\^GFA,(\d+),(\d+),(\d+),(.*?)\^FS", form).groups()
-        assert int(total) == int(size) == int(wide) * height, form[:80]
+    """The labels of ZPL: boxes, and letters that were sent before (ZPL II Programming Guide, ^GB, ~DG, ^XG, and the compression of graphics)."""
+    text, letters = data.decode("ascii"), {}
+    for name, total, wide, told in re.findall(r"~DG(R:\w+\.GRF),(\d+),(\d+),(.*)\n", text):
         rows = zpl_rows(told, 2 * int(wide))
-        assert len(rows) == height, (len(rows), height)
-        bits = bytes.fromhex("".join(rows))
-        image = Image.frombytes("1", (8 * int(wide), height), bytes(255 - byte for byte in bits)).crop((0, 0, width, height))
+        assert len(rows) * int(wide) == int(total), name
+        letters[name] = Image.frombytes("1", (8 * int(wide), len(rows)), bytes.fromhex("".join(rows)))
+    for form in re.findall(r"\^XA(\n.*?)\^XZ", text, re.DOTALL):
+        width, height = int(re.search(r"\^PW(\d+)", form)[1]), int(re.search(r"\^LL(\d+)", form)[1])
+        image = Image.new("1", (width, height), 1)
+        for left, top, field in re.findall(r"\^FO(\d+),(\d+)\^(.*)\^FS", form):
+            if field.startswith("XG"):
+                image.paste(0, (int(left), int(top)), letters[field[2:]])
+            else:
+                wide, high, thick = map(int, field[2:].split(","))
+                assert thick == min(wide, high), field
+                image.paste(0, (int(left), int(top), int(left) + wide, int(top) + high))
         for _ in range(int(re.search(r"\^PQ(\d+)", form)[1])):
             yield image
 
@@ -371,6 +378,10 @@ def main():
     pages = pages_by("pdftoppm", "-r", "300", "-gray", PDF, f"{PAGES}/page")
     turned = [it.transpose(Image.Transpose.ROTATE_90) for it in cuts(pages, "3483", 5, 1, 300)]
     read_all("cases.csv on 3483, turned: PDF by pdftoppm at 300", turned, labels_of(path))
+    file, = files_of("zpl", path, "--stock", "102x152", "--turn", "--darkness", "12", "--media", "gaps")
+    with open(file, "rb") as data:
+        turned = [it.transpose(Image.Transpose.ROTATE_90) for it in zpl_pictures(data.read())]
+    read_all("cases.csv on 102x152, turned: ZPL", turned, labels_of(path))
     try_whole_sheets()
     try_example()
     print("\n".join(FAULTS), file=sys.stderr, end="\n" if FAULTS else "")

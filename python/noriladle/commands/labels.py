@@ -27,6 +27,9 @@ if TYPE_CHECKING:
 FORMS = ("pdf", "svg", "png", "zpl", "epl", "tspl")
 _FOR_PRINTERS = FORMS[3:]
 _MOST_TOLD = 50
+_SETTINGS = {"darkness": (0, 30, "~SD{:02}", "Darkness that .zpl asks for, 0 to 30 [default: as the printer is set]"),
+             "speed": (1, 14, "^PR{}", "Inches a second that .zpl asks for, 1 to 14 [default: as the printer is set]")}
+_MEDIA = {"gaps": "^MNW", "marks": "^MNM", "continuous": "^MNN"}
 
 
 def add_arguments(parser: argparse.ArgumentParser) -> None:
@@ -51,6 +54,9 @@ def add_arguments(parser: argparse.ArgumentParser) -> None:
     parser.add_argument("--currency", default="", metavar="SIGN", help="Sign to put behind prices without one, such as €")
     parser.add_argument("--unit-price", type=_units, default=(), metavar="UNIT,..",
                         help="Print the price of a unit, such as kg,l or 100g,100ml, by the column of the content")
+    for name, (least, most, _, told_of) in _SETTINGS.items():
+        parser.add_argument(f"--{name}", type=int, choices=range(least, most + 1), metavar="N", help=told_of)
+    parser.add_argument("--media", choices=tuple(_MEDIA), help="What .zpl says of the roll: it has gaps, marks, or is continuous [default: as the printer is set]")
     add_list(parser)
     add_price(parser)
     parser.add_argument("--leave-out", action="store_true",
@@ -96,6 +102,8 @@ def run(words: argparse.Namespace) -> int:
         return RIGHT
     words.output = words.output or f"labels.{words.to or 'pdf'}"
     form = _form(words)
+    if form != "zpl" and (words.media or any(getattr(words, name) is not None for name in _SETTINGS)):
+        raise WrongWords(translated("--darkness, --speed and --media are for .zpl: leave them out"))
     from .. import labels as shop
     _need(shop.missing(form, bool(words.font)))
     columns, name = columns_of(words), name_of(words)
@@ -137,6 +145,13 @@ def run(words: argparse.Namespace) -> int:
     return REFUSED if made.left_out else RIGHT
 
 
+def _settings(words: argparse.Namespace) -> str:
+    """What a file says of the printer's settings."""
+    asked = [form.format(getattr(words, name)) for name, (_, _, form, _) in _SETTINGS.items() if getattr(words, name) is not None]
+    asked += [_MEDIA[words.media]] if words.media else []
+    return f"^XA{''.join(asked)}^XZ\n" if asked else ""
+
+
 def _need(missing: str) -> None:
     if missing:
         raise WrongWords(missing)
@@ -174,7 +189,7 @@ def _files(made: Labels, form: str, words: argparse.Namespace) -> List[Tuple[Pat
     if form in ("svg", "png"):
         pages = [text.encode() for text in made.svgs()] if form == "svg" else list(made.pngs())
     else:
-        write: Dict[str, Callable[[], bytes]] = {"zpl": made.zpl, "epl": made.epl, "tspl": made.tspl}
+        write: Dict[str, Callable[[], bytes]] = {"zpl": lambda: made.zpl(_settings(words)), "epl": made.epl, "tspl": made.tspl}
         pages = [made.pdf(title) if form == "pdf" else write[form]()]
     path = Path(words.output)
     if len(pages) == 1:

@@ -124,11 +124,11 @@ class Labels:
 
         return (png_of(page, self.stock, self.look) for page in self.pages())
 
-    def zpl(self) -> bytes:
-        """All labels as ZPL II. The printer makes the copies itself."""
+    def zpl(self, settings: str = "") -> bytes:
+        """All labels as ZPL II, behind the printer's settings. The printer makes the copies itself."""
         from ._dots import zpl_of
 
-        return b"".join(zpl_of(image, copies) for image, copies in self._images())
+        return zpl_of(((drawing, article.copies) for article, drawing in self.drawings if article.copies), self.look.turned, settings)
 
     def epl(self) -> bytes:
         """All labels as EPL2."""

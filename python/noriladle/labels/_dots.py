@@ -1,15 +1,16 @@
 """Labels as dots: PNG of pages, and ZPL, EPL and TSPL of single labels, for label printers.
 
-A label printer gets the whole label as dots, texts too. So every script prints, and the printer's fonts do not matter.
+A label printer gets letters as dots, and with EPL and TSPL the whole label. So every script prints, and the printer's fonts do not matter.
 """
 from __future__ import annotations
 
 import re
 import struct
 import zlib
-from typing import List, Optional, Sequence
+from itertools import chain
+from typing import Dict, Iterable, Iterator, List, Sequence, Tuple
 
-from ._drawing import Box, Drawing, Look, Text
+from ._drawing import Drawing, Look, Text
 from ._letters import dots_of
 from ._pages import Page
 from ._stocks import Stock
@@ -29,22 +30,17 @@ class Image:
         """How many rows it has."""
         return len(self.rows)
 
-    def put(self, width: int, rows: Sequence[int], left: int, top: int, within: Optional[Box] = None) -> None:
-        """Darkens the dark dots of other rows, from a place on. What lies outside of a box, or of the image, is cut off."""
-        first, upper, wide, high = within or (0, 0, self.width, self.height)
-        shift, inside = self.width - left - width, ((1 << wide) - 1) << self.width - first - wide
+    def put(self, left: int, top: int, width: int, rows: Sequence[int]) -> None:
+        """Darkens the dark dots of other rows, from a place on. What lies outside of the image is cut off."""
+        shift, inside = self.width - left - width, (1 << self.width) - 1
         for place, row in enumerate(rows, top):
-            if row and upper <= place < upper + high:
+            if row and 0 <= place < self.height:
                 self.rows[place] |= (row << shift if shift >= 0 else row >> -shift) & inside
 
     def write(self, text: Text) -> None:
         """Puts a text, each letter at whole dots, so that it looks the same everywhere."""
-        for piece, middle in text.pieces():
-            at = middle - text.font.width(piece, text.size) / 2
-            for letter in piece:
-                dots = dots_of(text.font.path_of(letter), letter, text.size)
-                self.put(dots.width, dots.rows, round(at) + dots.left, round(text.base) - dots.top, text.box)
-                at += text.font.width(letter, text.size)
+        for letter in _letters(text):
+            self.put(*letter)
 
     def turned(self) -> Image:
         """The same, turned to the right by 90 degrees."""
@@ -57,13 +53,28 @@ class Image:
         return wide, [(row << 8 * wide - self.width ^ light * ((1 << 8 * wide) - 1)).to_bytes(wide, "big") for row in self.rows]
 
 
+def _letters(text: Text) -> Iterator[Tuple[int, int, int, Sequence[int]]]:
+    """The letters of a text that have dots: their places, widths and rows, as far as they lie in its rectangle."""
+    first, upper, wide, high = text.box
+    for piece, middle in text.pieces():
+        at = middle - text.font.width(piece, text.size) / 2
+        for letter in piece:
+            dots = dots_of(text.font.path_of(letter), letter, text.size)
+            left, top = round(at) + dots.left, round(text.base) - dots.top
+            before, behind = max(0, first - left), max(0, left + dots.width - first - wide)
+            width, rows = dots.width - before - behind, dots.rows[max(0, upper - top):max(0, upper + high - top)]
+            if width > 0 and rows:
+                yield left + before, max(upper, top), width, [row >> behind & (1 << width) - 1 for row in rows]
+            at += text.font.width(letter, text.size)
+
+
 def png_of(page: Page, stock: Stock, look: Look) -> bytes:
     """A page as PNG of black and white dots, with its resolution (PNG 1.2, sections 3 and 4)."""
     width, height = (round(length * look.dots) for length in stock.page)
     sheet = Image(width, [0] * height)
     for placed in page:
         label = image_of(placed.drawing, look.turned)
-        sheet.put(label.width, label.rows, placed.left, placed.top)
+        sheet.put(placed.left, placed.top, label.width, label.rows)
     # One bit a dot, grey, no interlace; then dots in a metre. Each row begins with the number of its filter, which is none.
     chunks = {b"IHDR": struct.pack(">IIBBBBB", width, height, 1, 0, 0, 0, 0), b"pHYs": struct.pack(">IIB", *(round(look.dots * 1000),) * 2, 1),
               b"IDAT": zlib.compress(b"".join(b"\0" + row for row in sheet.packed(light=1)[1])), b"IEND": b""}
@@ -77,17 +88,32 @@ def image_of(drawing: Drawing, is_turned: bool) -> Image:
     for text in drawing.texts:
         image.write(text)
     for left, top, width, height in drawing.boxes:
-        image.put(width, [(1 << width) - 1] * height, left, top)
+        image.put(left, top, width, [(1 << width) - 1] * height)
     return image.turned() if is_turned else image
 
 
-def zpl_of(image: Image, copies: int) -> bytes:
-    """A label as ZPL II: one picture of dots; 1 is dark."""
-    wide, rows = image.packed(light=0)
-    told = "".join(_zpl_row(row, before) for row, before in zip(rows, [b"", *rows]))
-    size = wide * image.height
-    return (f"^XA\n^PW{image.width}\n^LL{image.height}\n^LH0,0\n^FO0,0^GFA,{size},{size},{wide},{told}^FS\n^PQ{copies}\n^XZ\n"
-            ).encode("ascii")
+def zpl_of(labels: Iterable[Tuple[Drawing, int]], is_turned: bool, settings: str) -> bytes:
+    """Labels and their copies as ZPL II: bars and lines as boxes, and each letter as dots, which the printer keeps up to the end."""
+    kept: Dict[Tuple[int, Tuple[int, ...]], str] = {}
+    forms = [settings]
+    for drawing, copies in labels:
+        fields = []
+        for left, top, width, height in drawing.boxes:
+            at, wide, high = (drawing.height - top - height, height, width) if is_turned else (left, width, height)
+            fields.append(f"^FO{at},{left if is_turned else top}^GB{wide},{high},{min(wide, high)}^FS")
+        for left, top, width, rows in chain.from_iterable(map(_letters, drawing.texts)):
+            name = kept.setdefault((width, tuple(rows)), f"R:N{len(kept)}.GRF")
+            fields.append(f"^FO{drawing.height - top - len(rows) if is_turned else left},{left if is_turned else top}^XG{name}^FS")
+        sides = (drawing.height, drawing.width) if is_turned else (drawing.width, drawing.height)
+        forms.append("^XA\n^PW{}\n^LL{}\n^LH0,0\n{}\n^PQ{}\n^XZ\n".format(*sides, "\n".join(fields), copies))
+    letters = [_zpl_letter(name, Image(width, rows), is_turned) for (width, rows), name in kept.items()]
+    return "".join([*letters, *forms, "^XA^IDR:N*.GRF^FS^XZ\n"]).encode("ascii")
+
+
+def _zpl_letter(name: str, letter: Image, is_turned: bool) -> str:
+    """The command by which a printer keeps a letter; 1 is dark."""
+    wide, rows = (letter.turned() if is_turned else letter).packed(light=0)
+    return f"~DG{name},{wide * len(rows)},{wide},{''.join(_zpl_row(row, before) for row, before in zip(rows, [b'', *rows]))}\n"
 
 
 def _zpl_row(row: bytes, before: bytes) -> str:
