@@ -3,6 +3,7 @@ from __future__ import annotations
 
 import re
 from decimal import ROUND_HALF_UP, Decimal
+from functools import lru_cache
 from typing import Dict, Iterable, List, NamedTuple, Optional, Sequence, Tuple
 
 from ._prices import PriceHeading
@@ -177,6 +178,7 @@ def cell_amount(cell: str) -> float:
     return float(f"{re.sub('[^0-9]', '', price.whole)}.{price.fraction or 0}")
 
 
+@lru_cache(maxsize=8192)
 def _written(cell: str) -> Optional[_Written]:
     """The parts of a cell that is written like a price."""
     found = _DIGIT.search(cell) and _PRICE.fullmatch(cell)

@@ -69,7 +69,10 @@ class Table:
 
     def cell(self, record: Record, meaning: str) -> str:
         """The cell of a record in a column: empty if the record is too short, or if there is no such column."""
-        return next((record.cells[place] for place in self.places.get(meaning, ()) if place < len(record.cells)), "")
+        for place in self.places.get(meaning, ()):
+            if place < len(record.cells):
+                return record.cells[place]
+        return ""
 
 
 def table_of(

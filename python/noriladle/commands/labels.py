@@ -16,7 +16,6 @@ import sys
 from pathlib import Path
 from typing import TYPE_CHECKING, Callable, Dict, List, Sequence, Tuple
 
-from .._amounts import measure_of
 from .._shop import count_text, counted, said, told, translated
 from . import REFUSED, RIGHT, Progress, WrongWords, add_year, tell, write_files
 from ._lists import add_list, add_price, columns_of, name_of, read_list
@@ -77,6 +76,8 @@ def _length(word: str) -> float:
 
 
 def _units(word: str) -> List[str]:
+    from .._amounts import measure_of  # Imported only here, since it takes time.
+
     units = word.split(",")
     for unit in units:
         if not measure_of(unit):

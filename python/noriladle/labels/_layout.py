@@ -57,6 +57,7 @@ class Item(NamedTuple):
     """An article, as it is lent to the library, and what its label counts for the others."""
 
     article: Article
+    texts: Sequence[str]
     lent: _Article
     measure: _Measure
 
@@ -93,7 +94,7 @@ class Layout:
             lent.texts[place] = _Lent(text.encode("utf-32-le"), len(text))
         measure = _Measure()
         self._check(_library.gs1_measure(_at(self._look), _at(lent), self._terms, _at(measure)), article)
-        return Item(article, lent, measure)
+        return Item(article, texts, lent, measure)
 
     def plan(self, items: Sequence[Item]) -> None:
         """Notes what the labels of these articles have in common, so that their sheets look even."""
@@ -111,7 +112,7 @@ class Layout:
         self._check(fault, item.article)
         count, nominal, width, height, top, end, _, module = _DRAWN.unpack(self._drawn)
         drawing = Drawing(width, height)
-        self._put(drawing, item.article, self._parts.raw[:count * _PART.size])
+        self._put(drawing, item, self._parts.raw[:count * _PART.size])
         dots, high = self._cell.dots, (end - top) / self._cell.dots
         wanted = nominal / 64 / dots
         if high < (_STRIP_MM if self._has_strip(item.article) else wanted) - 0.1:
@@ -122,11 +123,11 @@ class Layout:
             drawing.warnings.append(Warned("narrow", lengths, module))
         return drawing
 
-    def _put(self, drawing: Drawing, article: Article, parts: bytes) -> None:
+    def _put(self, drawing: Drawing, item: Item, parts: bytes) -> None:
         """Puts parts into a drawing, with a warning of each text that is cut."""
         behind = _PART.size * parts[_INK::_PART.size].count(_BAR)
         drawing.dark = parts[:behind]
-        texts = (*_texts(article), _symbol(article, self._year).text)
+        texts = (*item.texts, _symbol(item.article, self._year).text)
         for left, top, wide, high, *letters in _PART.iter_unpack(parts[behind:]):
             field, first, count, ink, flags, size, start, base, step = letters
             if ink != _LETTERS:

@@ -38,12 +38,9 @@ def pdf_of(pages: Iterable[Page], stock: Stock, look: Look, title: str) -> bytes
     codes: Dict[bool, _Codes] = {}
     for page in pages:
         for placed in page:
-            canvas.saveState()
-            canvas.transform(point, 0, 0, point, placed.left * point, height - placed.top * point)
-            if look.turned:
-                canvas.transform(0, -1, 1, 0, placed.drawing.height, 0)
+            turn = f"0 -1 1 0 {placed.drawing.height} 0 cm " if look.turned else ""
+            canvas.addLiteral(f"q {point:.6f} 0 0 {point:.6f} {placed.left * point:.4f} {height - placed.top * point:.4f} cm {turn}")
             _draw_pdf(canvas, placed.drawing, codes)
-            canvas.restoreState()
         canvas.showPage()
     canvas.save()
     return out.getvalue()
@@ -53,7 +50,7 @@ def _draw_pdf(canvas: Canvas, drawing: Drawing, codes: Dict[bool, _Codes]) -> No
     """Draws a label below the origin, in dots. Its boxes are one path, whose origin moves by what they lack."""
     boxes = [f"{left} {-top - height} {width - 1}.9 {height - 1}.9 re" for left, top, width, height in drawing.boxes]
     texts = [_shown(text, codes.get(text.font.is_bold) or codes.setdefault(text.font.is_bold, _Codes(text.font, canvas))) for text in drawing.texts]
-    canvas.addLiteral("\n".join([f"q 1 0 0 1 {_INSET} {_INSET} cm", *boxes, "f Q BT", *texts, "ET"]))
+    canvas.addLiteral("\n".join([f"q 1 0 0 1 {_INSET} {_INSET} cm", *boxes, "f Q BT", *texts, "ET Q"]))
 
 
 class _Codes(Dict[str, Tuple[str, str]]):
