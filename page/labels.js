@@ -19,15 +19,23 @@ function stockChosen() {
 
 const dpiFor = (stock) => Number(at("dpi").value) || (stock.isRoll ? 203 : 300);
 
-const firstCell = (stock) => Math.min(stock.cells, Math.max(1, Math.trunc(Number(at("first").value)) || 1)) - 1;
+const firstCell = () => Number(at("first").value || 1) - 1;
+
+// What is wrong with the stock or its first free label.
+function stockFault(stock) {
+  if (!stock) return t("ownFault");
+  return stock.isRoll || /^[1-9][0-9]*$/.test(at("first").value || "1") && firstCell() < stock.cells ? "" : t("firstFault", stock.cells);
+}
 
 // ---- making
 
 // Draws all labels, with pauses in which the page can be used. A later run ends an earlier one.
 async function makeLabels() {
   const turn = ++shop.turns, from = performance.now(), stock = stockChosen();
-  at("own-fault").textContent = stock ? "" : t("ownFault");
-  if (!stock) return;
+  at("own-fault").textContent = stockFault(stock);
+  // Half-drawn labels are neither printed nor saved.
+  for (const id of OUTPUTS) at(id).disabled = true;
+  if (stockFault(stock)) return;
   const dpi = dpiFor(stock), cell = cellOf(stock, DOTS_IN_MM[dpi]), { articles: all, columns, notes, question } = listRead();
   const items = [], labels = [], faults = [], each = eachInTime(turn, from), { articles, missing } = scannedOf(all);
   keepList();
@@ -39,8 +47,6 @@ async function makeLabels() {
   if (!await each(articles, (article) => items.push({ ...article, fault: article.fault ?? layout.measure(article) }))) return;
   layout.plan();
   shop.made = { stock, dpi, cell, labels, faults, question, isDone: false };
-  // Half-drawn labels are neither printed nor saved.
-  for (const id of OUTPUTS) at(id).disabled = true;
   const drawn = (item) => {
     const drawing = item.fault ? item : layout.draw(item);
     if (drawing.fault) return faults.push({ ...item, fault: drawing.fault });
@@ -76,7 +82,7 @@ function eachInTime(turn, from) {
 
 // The labels of a page, each at whole dots of it.
 function pageOf(number) {
-  const { stock, dpi, labels } = shop.made, dots = DOTS_IN_MM[dpi], first = firstCell(stock), page = [];
+  const { stock, dpi, labels } = shop.made, dots = DOTS_IN_MM[dpi], first = stock.isRoll ? 0 : firstCell(), page = [];
   for (let cell = 0; cell < stock.cells; cell++) {
     const drawing = labels[number * stock.cells + cell - first];
     if (!drawing || number * stock.cells + cell < first) continue;
@@ -86,7 +92,7 @@ function pageOf(number) {
   return page;
 }
 
-const pageCount = () => Math.ceil((firstCell(shop.made.stock) + shop.made.labels.length) / shop.made.stock.cells);
+const pageCount = () => Math.ceil(((shop.made.stock.isRoll ? 0 : firstCell()) + shop.made.labels.length) / shop.made.stock.cells);
 const allPages = () => Array.from({ length: pageCount() }, (_, number) => pageOf(number));
 
 const svgElement = (text) => document.importNode(new DOMParser().parseFromString(text, "image/svg+xml").documentElement, true);
@@ -102,7 +108,7 @@ function gridOf(stock, dots, used) {
 function showSheet() {
   const { stock, dpi, labels } = shop.made, dots = DOTS_IN_MM[dpi], count = Math.max(1, pageCount());
   shop.page = Math.min(shop.page, count - 1);
-  const used = shop.page ? 0 : firstCell(stock), sheet = svgElement(svgOfPage(pageOf(shop.page), stock, dots, gridOf(stock, dots, used)));
+  const used = shop.page || stock.isRoll ? 0 : firstCell(), sheet = svgElement(svgOfPage(pageOf(shop.page), stock, dots, gridOf(stock, dots, used)));
   sheet.setAttribute("role", "img");
   sheet.setAttribute("aria-label", labels.length ? t("sheetLabel", countText(shop.page + 1), countText(count), pageOf(shop.page).map(({ drawing: { item } }) => [item.name.slice(0, MOST_NAME_TOLD), item.price, item.text].filter(Boolean).join(" ")).join("; ")) : t("sheetEmpty"));
   at("paper").replaceChildren(sheet);
@@ -244,7 +250,7 @@ function setZoom(zoom) {
 // The cell of the first sheet that was tapped is the first free one.
 function takeFirst(cell) {
   if (cell === undefined || shop.page || shop.made.stock.isRoll) return;
-  if (Number(cell) === firstCell(shop.made.stock)) return;
+  if (Number(cell) === firstCell()) return;
   at("first").value = Number(cell) + 1;
   note(t("firstNow", Number(cell) + 1));
   document.made = makeLabels();

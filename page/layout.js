@@ -190,7 +190,10 @@ function tooWide(kind, symbol, cell) {
   const finest = Math.max(...Object.keys(DOTS_IN_MM)), aside = cell.aside / cell.dots;
   const leastOf = (dots) => modulesAllowed(modulesOf(kind), dots)[0] / dots;
   const [module, least] = [cell.dots, DOTS_IN_MM[finest]].map(leastOf);
-  const ways = [{ key: "wider", values: [Math.ceil(neededFor(kind, symbol, module, aside))] }];
+  const wide = Math.ceil(neededFor(kind, symbol, module, aside)), stocks = Object.entries(STOCKS).map(([name, text]) => ({ name, ...stockOf(text) }))
+    .filter((stock) => Math.max(wide, neededFor(kind, symbol, module, stock.aside)) <= stock.width).sort((a, b) => a.width - b.width || (a.name < b.name ? -1 : 1));
+  const named = stocks.length ? ` (${stocks.slice(0, 3).map(({ name }) => name).join(", ")})` : "";
+  const ways = [{ key: "wider", values: [wide, named] }];
   if (neededFor(kind, symbol, least, aside) <= cell.width / cell.dots) ways.push({ key: "finer", values: [finest] });
   if (kind === "gs1128") ways.push({ key: "fewer" });
   const lengths = [length1(cell.width / cell.dots), length3(module), length1(module * symbol.modules)];

@@ -62,6 +62,8 @@ TEXTS: Dict[str, str] = {
     "Turn the labels by 90 degrees on their stock": "Den Inhalt der Etiketten um 90 Grad drehen",
     "Sign to put behind prices without one, such as €": "Zeichen hinter Preisen, die keines haben, etwa €",
     "Make labels without a price": "Etiketten ohne Preis machen",
+    "Print a page of the labels' edges, to lay over the stock": "Eine Seite mit den Rändern der Etiketten drucken, zum Auflegen",
+    "labels beside each other on a roll are not turned: leave --turn out": "Etiketten nebeneinander auf einer Rolle werden nicht gedreht: bitte --turn weglassen",
     "Darkness that .zpl asks for, 0 to 30 [default: as the printer is set]":
         "Schwärzung, die .zpl verlangt, 0 bis 30 [sonst: wie am Drucker eingestellt]",
     "Inches a second that .zpl asks for, 1 to 14 [default: as the printer is set]":

@@ -11,6 +11,7 @@ pytest.importorskip("reportlab")
 import noriladle
 from noriladle import Kind, find_dots, label_symbol, labels
 from noriladle.labels import Faults, Look, fonts_of, make, read_list, stock_of
+from noriladle.labels import _stocks
 from noriladle.labels._dots import Image as Dots
 from noriladle.labels._dots import _zpl_row, image_of
 from noriladle.labels._letters import dots_of
@@ -43,6 +44,8 @@ def faults(data, stock="L7160", **named):
     ("2x7:99.1x38.1+2.54+0", 14, (4.63, 15.15), (106.27, 243.75)),
     ("57x32", 1, (0, 0), (0, 0)),
     ("Dymo 11354", 1, (0, 0), (0, 0)),
+    ("2x3:60x40+5+2@a5", 6, (11.5, 43), (76.5, 127)), ("2x7:90x38@a4/7.5/15", 14, (7.5, 15), (97.5, 243)), ("2x1:50x25+2+0@104x25", 2, (1, 0), (53, 0)),
+    ("1x2:100x60/10/20&2x1:100x60/5/200", 4, (10, 20), (105, 200)),
 ])
 def test_stock(name, cells, first, last):
     stock = stock_of(name)
@@ -53,7 +56,7 @@ def test_stock(name, cells, first, last):
 @pytest.mark.parametrize("name, told", [
     ("", "there is no stock ''"), ("L7999", "did you mean "), ("L716", "did you mean L7165 or L7163 or L7162?"), ("3x8", "no labels of 5"),
     ("4x8:70x37", "larger than their page"), ("0x1:70x37", "no labels of 5 to 1000 mm"), ("3x8:70x37@a0", "there is no page 'a0'"),
-    ("3x8:1x1", "no labels"), ("70x37\n\n", None), ("2000x20", "no labels"),
+    ("3x8:1x1", "no labels"), ("1x2:100x60&1x2:90x60", "no labels"), ("1x2:100x60/150/20", "larger than their page"), ("1x1:50x30@20x20", "larger"), ("70x37\n\n", None), ("2000x20", "no labels"),
 ])
 def test_no_stock(name, told):
     if told is None:
@@ -61,6 +64,28 @@ def test_no_stock(name, told):
     else:
         with pytest.raises(ValueError, match=re.escape(told)):
             stock_of(name)
+
+
+def test_stock_of_glabels(tmp_path, monkeypatch):
+    monkeypatch.setattr(_stocks, "_TEMPLATES", tmp_path)
+    (tmp_path / "paper-sizes.xml").write_text('<P><Paper-size id="A6" width="105mm" height="148mm"/></P>')
+    label = '<Label-rectangle id="0" width="2in" height="30mm"><Markup-margin size="5"/><Layout nx="2" ny="4" x0="1mm" y0="36pt" dx="52mm" dy="30mm"/></Label-rectangle>'
+    (tmp_path / "a-templates.xml").write_text(f'<T><Template brand="One" part="X1" size="A6">{label}</Template><Template brand="One" part="X2" equiv="X1"/></T>')
+    stock = stock_of("one x2")
+    assert stock == stock_of("X1") and stock.cells == 8 and stock.place(7) == pytest.approx((53, 102.7)) and stock.page == (105, 148)
+    (tmp_path / "b-templates.xml").write_text(f'<T><Template brand="Two" part="X1" size="A6">{label.replace("2in", "40mm")}</Template></T>')
+    with pytest.raises(ValueError, match="did you mean One X1 or Two X1"):
+        stock_of("X1")
+
+
+def test_edges_and_rows():
+    look = Look(203)
+    (_, drawing), = labels.outlines(stock_of("3474"), look).drawings
+    assert labels.outlines(stock_of("3474"), look).sheets == 1 and len(drawing.boxes) == 4 and max(it[0] + it[2] for it in drawing.boxes) == drawing.width
+    row = made(stock="2x1:60x30+2+0@124x30", look=look)
+    assert row.zpl().count(b"^PW992") == 2 and row.tspl().startswith(b"SIZE 124 mm,30 mm") and row.sheets == 2
+    with pytest.raises(ValueError, match="not turned"):
+        made(stock="2x1:60x60@124x60", look=Look(203, turned=True)).zpl()
 
 
 @pytest.mark.parametrize("data, line, told", [
@@ -117,7 +142,7 @@ def test_an_element_string_of_its_column_needs_no_mark():
 
 def test_bars_that_have_no_room():
     (line, told), = faults("gs1\n(01)09501101530003(17)261231(10)LOT7\n", "3474")
-    assert line == 2 and "needs 89.4 mm with its quiet zones" in told and "use labels of 92 mm or more" in told and "--turn" not in told
+    assert line == 2 and "needs 89.4 mm with its quiet zones" in told and "use labels of 92 mm or more (L7162, L7163, L7165)" in told and "--turn" not in told
     assert "--turn" in faults("gs1\n(01)09501101530003(17)261231(10)LOT7\n", "1x1:70x148")[0][1]
     assert "--dpi 600" in faults("gtin\n9501101530003\n", "L7651")[0][1]
     assert "are left for the bars" in faults("gtin,name\n9501101530003,x\n", "60x10")[0][1]

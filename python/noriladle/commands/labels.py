@@ -38,6 +38,7 @@ def add_arguments(parser: argparse.ArgumentParser) -> None:
     parser.add_argument("--stock", default="3474", metavar="STOCK",
                         help="Label stock by its number, or by measures: 3x8:70x37 on A4, 57x32 on a roll [default: 3474]")
     parser.add_argument("--stocks", action="store_true", help="List the known numbers of stock, with their measures in mm")
+    parser.add_argument("--align", action="store_true", help="Print a page of the labels' edges, to lay over the stock")
     parser.add_argument("--start", type=int, default=1, metavar="N", help="First free label of a sheet that is partly used [default: 1]")
     parser.add_argument("--shift", type=_shift, default=(0.0, 0.0), metavar="X,Y",
                         help="Move all labels right and down by this many mm [default: 0,0]")
@@ -107,9 +108,10 @@ def run(words: argparse.Namespace) -> int:
         raise WrongWords(translated("--darkness, --speed and --media are for .zpl: leave them out"))
     from .. import labels as shop
     _need(shop.missing(form, bool(words.font)))
+    if words.align:
+        return _align(words, form)
     columns, name = columns_of(words), name_of(words)
-    dpi = words.dpi or (203 if form in _FOR_PRINTERS else 300)
-    look = shop.Look(dpi, words.module, words.bars, words.bearers, words.turn, words.look == "price")
+    look = shop.Look(_dpi(words, form), words.module, words.bars, words.bearers, words.turn, words.look == "price")
     progress, prices = Progress(), None
     try:
         stock, fonts = shop.stock_of(words.stock), shop.fonts_of(words.font, words.bold)
@@ -144,6 +146,23 @@ def run(words: argparse.Namespace) -> int:
     pages = "" if form in _FOR_PRINTERS else counted("onPages", made.sheets)
     tell(f"{counted('labels', made.count)}{pages}{_where(words.output, files)}")
     return REFUSED if made.left_out else RIGHT
+
+
+def _dpi(words: argparse.Namespace, form: str) -> int:
+    return words.dpi or (203 if form in _FOR_PRINTERS else 300)
+
+
+def _align(words: argparse.Namespace, form: str) -> int:
+    """Writes the edges of the labels of a page."""
+    from .. import labels as shop
+    try:
+        made = shop.outlines(shop.stock_of(words.stock), shop.Look(_dpi(words, form)), words.shift)
+        files = _files(made, form, words)
+    except ValueError as error:
+        raise WrongWords(str(error)) from error
+    _write(words.output, files)
+    tell(f"{counted('labels', made.count)}{counted('onPages', made.sheets)}{_where(words.output, files)}")
+    return RIGHT
 
 
 def _settings(words: argparse.Namespace) -> str:

@@ -15,23 +15,24 @@ from __future__ import annotations
 from dataclasses import dataclass, replace
 from typing import TYPE_CHECKING, Callable, Dict, Iterator, List, Mapping, NamedTuple, Optional, Sequence, Tuple, TypeVar
 
+from .. import Kind, read_scan
 from .._amounts import signed
 from .._columns import Table, table_of
 from .._lists import MOST_LINES, Fault, Faults
 from .._needs import FONT, REPORTLAB, sentence
 from .._shop import count_text, said, sentence_of_lines, told, translated
 from ._articles import Article, articles_of
-from ._drawing import RESOLUTIONS, Drawing, Look, Warned, cell_of
+from ._drawing import BOX, RESOLUTIONS, Drawing, Look, Warned, cell_of
 from ._fonts import Fonts, fonts_of
 from ._layout import Layout
-from ._pages import Page, Placed, svg_of
+from ._pages import Page, Placed, beside, svg_of
 from ._stocks import KNOWN, Stock, stock_of
 
 if TYPE_CHECKING:
     from ._dots import Image
 
 __all__ = ["KNOWN", "RESOLUTIONS", "Article", "Fault", "Faults", "Fonts", "LabelWarning", "Labels", "Look",
-           "MOST_LABELS", "PriceList", "Stock", "fonts_of", "make", "missing", "read_list", "stock_of"]
+           "MOST_LABELS", "PriceList", "Stock", "fonts_of", "make", "missing", "outlines", "read_list", "stock_of"]
 
 MOST_LABELS = 100_000
 """The most labels of a list, with all copies."""
@@ -128,7 +129,7 @@ class Labels:
         """All labels as ZPL II, behind the printer's settings. The printer makes the copies itself."""
         from ._dots import zpl_of
 
-        return zpl_of(((drawing, article.copies) for article, drawing in self.drawings if article.copies), self.look.turned, settings)
+        return zpl_of(self._single(), self.look.turned, settings)
 
     def epl(self) -> bytes:
         """All labels as EPL2."""
@@ -140,13 +141,27 @@ class Labels:
         """All labels as TSPL."""
         from ._dots import tspl_of
 
-        return b"".join(tspl_of(image, self.stock, copies) for image, copies in self._images())
+        size = self.stock.page if self.stock.has_row else (self.stock.width, self.stock.height)
+        return b"".join(tspl_of(image, size, copies) for image, copies in self._images())
 
     def _images(self) -> Iterator[Tuple[Image, int]]:
         """The dots of each label, and how many copies it has."""
         from ._dots import image_of
 
-        return ((image_of(drawing, self.look.turned), article.copies) for article, drawing in self.drawings if article.copies)
+        return ((image_of(drawing, self.look.turned), copies) for drawing, copies in self._single())
+
+    def _single(self) -> Iterator[Tuple[Drawing, int]]:
+        """What a label printer prints at a time, with how many copies: a label, or a row of them.
+
+        :raises ValueError: the labels of a row are turned.
+        """
+        if not self.stock.has_row:
+            yield from ((drawing, article.copies) for article, drawing in self.drawings if article.copies)
+        elif self.look.turned:
+            raise ValueError(translated("labels beside each other on a roll are not turned: leave --turn out"))
+        else:
+            width, height = (int(length * self.look.dots) for length in self.stock.page)
+            yield from ((beside(page, width, height), 1) for page in self.pages())
 
 
 def missing(form: str, has_font: bool) -> str:
@@ -196,6 +211,16 @@ def _notes(table: Table, articles: Sequence[Article], units: Sequence[str]) -> L
     unused = [name for name in table.unused if not units or name != said("quoted", table.captions["content"])]
     shown = [said("unused", ", ".join(unused))] if unused else []
     return [*table.notes(), *shown, *sentence_of_lines("unpriced", unpriced), *sentence_of_lines("unmeasured", unmeasured)]
+
+
+def outlines(stock: Stock, look: Look, shift: Tuple[float, float] = (0.0, 0.0)) -> Labels:
+    """A page of the edges of all labels, to lay over the stock."""
+    cell = cell_of(stock, replace(look, turned=False))
+    thick = max(1, round(look.dots / 5))
+    edges = [(0, 0, cell.width, thick), (0, cell.height - thick, cell.width, thick), (0, 0, thick, cell.height), (cell.width - thick, 0, thick, cell.height)]
+    drawing = Drawing(cell.width, cell.height, b"".join(BOX.pack(*edge) for edge in edges))
+    article = Article(1, Kind.EAN13, "", read_scan("9501101530003", 2026), copies=stock.cells)
+    return Labels(((article, drawing),), stock, replace(look, turned=False), 0, shift)
 
 
 def make(

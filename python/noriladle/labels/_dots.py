@@ -144,9 +144,8 @@ def epl_of(image: Image, look: Look, copies: int) -> bytes:
     return head.encode("ascii") + b"".join(rows) + f"\nP{copies}\n".encode("ascii")
 
 
-def tspl_of(image: Image, stock: Stock, copies: int) -> bytes:
+def tspl_of(image: Image, size: Tuple[float, float], copies: int) -> bytes:
     """A label as TSPL: one picture of dots; 1 is light."""
     wide, rows = image.packed(light=1)
-    size = f"SIZE {stock.width:g} mm,{stock.height:g} mm\r\nGAP {_GAP} mm,0 mm"
-    head = f"{size}\r\nDIRECTION 1\r\nCLS\r\nBITMAP 0,0,{wide},{image.height},0,"
+    head = f"SIZE {size[0]:g} mm,{size[1]:g} mm\r\nGAP {_GAP} mm,0 mm\r\nDIRECTION 1\r\nCLS\r\nBITMAP 0,0,{wide},{image.height},0,"
     return head.encode("ascii") + b"".join(rows) + f"\r\nPRINT 1,{copies}\r\n".encode("ascii")

@@ -13,6 +13,7 @@ from .._shop import count_text, localized, said, shared, told, translated
 from ._articles import Article
 from ._drawing import BOX, DOTS_IN_MM, RESOLUTIONS, Cell, Drawing, Look, Text, Warned
 from ._fonts import Font, Fonts
+from ._stocks import KNOWN, stock_of
 
 _LOGISTIC_MM = 0.495
 _STRIP_MM = 6.0
@@ -231,7 +232,10 @@ def _too_wide(kind: Kind, symbol: LabelSymbol, cell: Cell) -> str:
     finest = max(RESOLUTIONS)
     module, least = (_least(kind, dots) / dots for dots in (cell.dots, DOTS_IN_MM[finest]))
     wide, high, aside, above = (length / cell.dots for length in (cell.width, cell.height, cell.aside, cell.above))
-    ways = [said("wider", count_text(math.ceil(_needed(kind, symbol, module, aside))))]
+    least_wide = math.ceil(_needed(kind, symbol, module, aside))
+    stocks = [(it.width, name) for name, it in zip(KNOWN, map(stock_of, KNOWN)) if max(least_wide, _needed(kind, symbol, module, it.padding[0])) <= it.width]
+    named = f" ({', '.join(name for _, name in sorted(stocks)[:3])})" if stocks else ""
+    ways = [said("wider", count_text(least_wide), named)]
     if _needed(kind, symbol, least, aside) <= wide:
         ways.append(f"{said('finer', finest)} (--dpi {finest})")
     if _needed(kind, symbol, module, above) <= high:

@@ -4,7 +4,7 @@ from __future__ import annotations
 from typing import List, NamedTuple
 from xml.sax.saxutils import escape
 
-from ._drawing import Drawing, Look, Text
+from ._drawing import BOX, Drawing, Look, Text
 from ._stocks import Stock
 
 
@@ -17,6 +17,16 @@ class Placed(NamedTuple):
 
 
 Page = List[Placed]
+
+
+def beside(page: Page, width: int, height: int) -> Drawing:
+    """The labels of a page as one of this size."""
+    row = Drawing(width, height)
+    for left, top, drawing in page:
+        row.dark += b"".join(BOX.pack(left + x, top + y, wide, high) for x, y, wide, high in drawing.boxes)
+        row.texts += [text._replace(left=left + text.left, base=top + text.base, box=(left + text.box[0], top + text.box[1], *text.box[2:]))
+                      for text in drawing.texts]
+    return row
 
 
 def svg_of(page: Page, stock: Stock, look: Look) -> str:
