@@ -92,7 +92,7 @@ class Amounts:
         kind, size = _DIGIT.search(content) and measure_of(content) or ("", Decimal())
         written, unit = _written(price), next((it for it in units if (measure_of(it) or ("",))[0] == kind), "")
         _, asked = measure_of(unit) or ("", Decimal())
-        if not size or not unit or not written or written.each:
+        if not size or not asked or not written or written.each:
             raise ValueError(said("noContent", short(content), ", ".join(units)))
         number = amount_of(price) * asked / size
         whole, _, fraction = str(number.quantize(Decimal(1).scaleb(-_DECIMALS.get(written.currency, self._decimals)), ROUND_HALF_UP)).partition(".")

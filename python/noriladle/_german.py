@@ -68,8 +68,8 @@ TEXTS: Dict[str, str] = {
         "Schwärzung, die .zpl verlangt, 0 bis 30 [sonst: wie am Drucker eingestellt]",
     "Inches a second that .zpl asks for, 1 to 14 [default: as the printer is set]":
         "Zoll je Sekunde, die .zpl verlangt, 1 bis 14 [sonst: wie am Drucker eingestellt]",
-    "What .zpl says of the roll: it has gaps, marks, or is continuous [default: as the printer is set]":
-        "Was .zpl von der Rolle sagt: mit Lücken, Marken oder endlos [sonst: wie am Drucker eingestellt]",
+    "What .zpl says of the roll: gaps, marks or continuous [default: as the printer is set]":
+        "Was .zpl von der Rolle sagt: gaps (Lücken), marks (Marken) oder continuous (endlos) [sonst: wie am Drucker eingestellt]",
     "--darkness, --speed and --media are for .zpl: leave them out":
         "--darkness, --speed und --media sind für .zpl: bitte weglassen",
     "Print the price of a unit, such as kg,l or 100g,100ml, by the column of the content":

@@ -88,6 +88,7 @@ EDITS = [
     ("articles.js", "/[0-9].*[^0-9]|[^0-9].*[0-9]/.test(cell)", "true"),
     ("articles.js", "`${amount.price}/${trimmed(unit)}`", "amount.price"),
     ("columns.js", "meaning === \"name\" && isNumber || BESIDE.includes(meaning)", "meaning === \"name\" && isNumber"),
+    ("columns.js", "&& !hasUnit(place)", "&& false"),
     ("columns.js", "[\"price\", ...BESIDE].includes(meaning) ? []", "meaning === \"price\" ? []"),
     ("articles.js", "for (const record of table.lost) noteDoubt(numbers, record);", ""),
 ]

@@ -56,7 +56,8 @@ def add_arguments(parser: argparse.ArgumentParser) -> None:
                         help="Print the price of a unit, such as kg,l or 100g,100ml, by the column of the content")
     for name, (least, most, _, told_of) in _SETTINGS.items():
         parser.add_argument(f"--{name}", type=int, choices=range(least, most + 1), metavar="N", help=told_of)
-    parser.add_argument("--media", choices=tuple(_MEDIA), help="What .zpl says of the roll: it has gaps, marks, or is continuous [default: as the printer is set]")
+    parser.add_argument("--media", choices=tuple(_MEDIA), metavar="MEDIA",
+                        help="What .zpl says of the roll: gaps, marks or continuous [default: as the printer is set]")
     add_list(parser)
     add_price(parser)
     parser.add_argument("--leave-out", action="store_true",
@@ -81,7 +82,7 @@ def _units(word: str) -> List[str]:
 
     units = word.split(",")
     for unit in units:
-        if not measure_of(unit):
+        if not (measure_of(unit) or ("", 0))[1]:
             raise argparse.ArgumentTypeError(translated("{0!r} is no unit, such as kg, 100g or l", unit))
     return units
 
