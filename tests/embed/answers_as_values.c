@@ -193,6 +193,22 @@ static size_t bytes_of(const char *line, uint8_t *out) {
     return count;
 }
 
+/* The conflicts of a struct of any bytes, of as many elements as it has: they fit into the room, are in order, and do not depend on it. */
+static void conflicts_of_any(const struct gs1_answer *answer, size_t room) {
+    static struct gs1_conflict all[241], some[241];
+    unsigned elements = answer->count < 48 ? answer->count : 48;
+    size_t count = gs1_conflicts(answer, all, 240), first = count < room ? count : room;
+    memset(&some[room], 0x5c, sizeof *some);
+    same_number("conflicts in a room", (unsigned long)gs1_conflicts(answer, some, room), (unsigned long)first);
+    same_number("conflicts again", (unsigned long)memcmp(some, all, first * sizeof *all), 0);
+    same_number("beyond the conflicts", some[room].kind, 0x5c);
+    for (size_t i = 0; i < count; i++) {
+        same_number("kind of a conflict", all[i].kind < GS1_NEEDS || all[i].kind > GS1_NO_PREFIX || all[i].text[44], 0);
+        same_number("element of a conflict", all[i].element >= elements || (i && all[i].element < all[i - 1].element), 0);
+        same_number("other element", all[i].other != 255, all[i].kind == GS1_EXCLUDES || all[i].kind == GS1_DIFFERS);
+    }
+}
+
 /* A million structs of any bytes, and rooms of 0 to 4,096: nothing is read outside of the struct, nothing is written beyond the room. */
 static void format_any(unsigned long times) {
     static uint8_t out[4097];
@@ -214,6 +230,10 @@ static void format_any(unsigned long times) {
         same_number("beyond the room", out[room], 0x5c);
         if (count > room && room) same_number("line that does not fit", out[0], 0x5c);
         same_number("size", (unsigned long)gs1_format(&answer, form, NULL, 9), (unsigned long)count);
+        if (i % 20) continue;
+        /* Half of them have digits alone. */
+        for (size_t k = 0; i % 40 && k < sizeof answer.text; k++) answer.text[k] = (uint8_t)('0' + answer.text[k] % 10);
+        conflicts_of_any(&answer, room % 240);
     }
 }
 
@@ -238,6 +258,7 @@ int main(int count, char **words) {
     same_number("no row", (unsigned long)gs1_read_row(NULL, 3, 2026, &answer), GS1_FAULT_BAD_RUNS);
     same_number("no dots", (unsigned long)gs1_read_dots(NULL, 9, 2026, &answer), GS1_FAULT_BAD_RUNS);
     same_number("no answer", (unsigned long)gs1_format(NULL, GS1_AS_DATA, NULL, 0), strlen("refused 40 Kind"));
+    same_number("no conflicts", (unsigned long)(gs1_conflicts(NULL, NULL, 3) + gs1_conflicts(&answer, NULL, 3)), 0);
     if (!rows) format_any(1000000);
     printf("%lu answers as values, %lu differ\n", asked, wrong);
     return wrong ? 1 : 0;

@@ -37,6 +37,7 @@ static void read_row(const uint8_t *text, size_t length) { (void)text, gs1_read_
 static void read_dots(const uint8_t *text, size_t length) { gs1_read_dots(text, 8 * length, YEAR, &answer); }
 static void read_data(const uint8_t *text, size_t length) { gs1_read_data(text, length, YEAR, &answer); }
 static void format(const uint8_t *text, size_t length) { read_message(text, length), gs1_format(&answer, GS1_AS_DATA, out, sizeof out); }
+static void conflicts(const uint8_t *text, size_t length) { read_message(text, length), gs1_conflicts(&answer, (struct gs1_conflict *)out, 48); }
 
 static void draw(const uint8_t *text, size_t length) {
     static const struct gs1_font font = {.other = 8192, .ascent = 15893, .descent = 3769, .digits = 12124};
@@ -100,6 +101,7 @@ int main(int count, char **words) {
         {"gs1_read_message", read_message, LINK, sizeof LINK - 1}, {"gs1_read_elements", read_elements, STRING, sizeof STRING - 1},
         {"gs1_read_gtin", read_gtin, "9501101530003", 13}, {"gs1_read_row", read_row, widths, runs + 1}, {"gs1_read_dots", read_dots, bits, sizeof bits},
         {"gs1_read_data", read_data, line, strlen(line)}, {"gs1_format", format, LINK, sizeof LINK - 1},
+        {"gs1_conflicts", conflicts, LINK, sizeof LINK - 1},
     };
     size_t most = 0, empty = stack_of((struct asked){"nothing", nothing, NULL, 0});
     for (size_t i = 0; i < sizeof all / sizeof *all; i++) {

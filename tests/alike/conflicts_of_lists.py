@@ -1,19 +1,26 @@
-"""Compares the conflicts that the library finds in random lists of elements with a plain model of the rules, which reads tables/ais.tsv and
-tables/codes.tsv by itself:
+"""Compares the conflicts that C, Python and the npm package find in random lists of elements with a plain model of the rules, which reads
+tables/ais.tsv and tables/codes.tsv by itself:
 
-    python3 tests/embed/conflicts_of_lists.py LIBRARY COUNT
+    python3 tests/alike/conflicts_of_lists.py LIBRARY PACKAGE COUNT
 
-A list has up to six elements of any AIs, some of them twice, with values that need not be right: the library looks at AIs and codes alone. The
-last line is the counts.
+LIBRARY is libgs1.so and PACKAGE the npm package. A list has up to six elements of any AIs, some of them twice, with values that need not be right:
+the library looks at AIs and codes alone. The last line is the counts.
 """
 import ctypes
 import itertools
+import json
 import pathlib
 import random
 import struct
+import subprocess
 import sys
 
-TABLES = pathlib.Path(__file__).resolve().parents[2] / "tables"
+ROOT = pathlib.Path(__file__).resolve().parents[2]
+TABLES = ROOT / "tables"
+sys.path.insert(0, str(ROOT / "python"))
+sys.dont_write_bytecode = True
+import noriladle
+
 KINDS = ("", "needs", "excludes", "differs", "country", "currency", "prefix")
 
 
@@ -84,7 +91,7 @@ def model(elements):
     return found
 
 
-def library_answer(library, elements):
+def by_c(library, elements):
     text, places = "", b""
     for ai, value in elements:
         places += struct.pack("<3B15x", len(text), len(text + ai), len(text + ai + value))
@@ -95,6 +102,19 @@ def library_answer(library, elements):
     told = [struct.unpack_from("<3B45s", out, 48 * i) for i in range(count)]
     assert out.raw[48 * count:] == b"\xa5" * 48 * (60 - count), "what stands behind is not written"
     return [(at, KINDS[kind], other, words.rstrip(b"\0").decode("ascii")) for kind, at, other, words in told]
+
+
+def by_python(elements):
+    listed = [noriladle.Element(ai, value) for ai, value in elements]
+    index = {id(element): at for at, element in enumerate(listed)}
+    return [(index[id(it.element)], it.kind, index[id(it.other)] if it.other else 255, it.text) for it in noriladle.conflicts(listed)]
+
+
+def by_npm(package, every):
+    """The conflicts of every list, found by the npm package."""
+    lines = "".join(f"{json.dumps(elements)}\n" for elements in every)
+    said = subprocess.run(["node", str(ROOT / "tests/alike/npm_conflicts.mjs"), package], input=lines, stdout=subprocess.PIPE, text=True, check=True)
+    return [[tuple(it) for it in json.loads(line)] for line in said.stdout.splitlines()]
 
 
 def lists(chance):
@@ -122,23 +142,28 @@ def in_order(found):
     return sorted(found)
 
 
-def main(path, count):
+def main(path, package, count):
     library = ctypes.CDLL(path)
     library.gs1_conflicts.restype = ctypes.c_size_t
     library.gs1_conflicts.argtypes = [ctypes.c_char_p, ctypes.c_char_p, ctypes.c_size_t]
-    kinds, wrong, told = dict.fromkeys(KINDS[1:], 0), 0, 0
-    for elements in itertools.islice(lists(random.Random(7)), count):
-        wanted, got = model(elements), library_answer(library, elements)
-        told += len(wanted)
+    kinds, wrong = dict.fromkeys(KINDS[1:], 0), dict.fromkeys(("model", "python", "npm"), 0)
+    every = list(itertools.islice(lists(random.Random(7)), count))
+    npm = by_npm(package, every)
+    assert len(npm) == count, "npm answers each list"
+    for elements, said in zip(every, npm):
+        wanted, got = model(elements), by_c(library, elements)
         for it in wanted:
             kinds[it[1]] += 1
-        if in_order(got) != in_order(wanted) or [it[0] for it in got] != sorted(it[0] for it in got):
-            wrong += 1
-            print(f"{elements}: {got}, not {wanted}", file=sys.stderr)
+        right = in_order(got) == in_order(wanted) and [it[0] for it in got] == sorted(it[0] for it in got)
+        for name, is_wrong in (("model", not right), ("python", by_python(elements) != got), ("npm", said != got)):
+            if is_wrong:
+                wrong[name] += 1
+                print(f"{name}: {elements}: C has {got}", file=sys.stderr)
     assert all(kinds.values()), kinds
-    print(f"{count} lists, {told} conflicts ({', '.join(f'{n} {kind}' for kind, n in kinds.items())}), {wrong} wrong")
-    return 1 if wrong else 0
+    print(f"{count} lists, {sum(kinds.values())} conflicts ({', '.join(f'{n} {kind}' for kind, n in kinds.items())});"
+          f" C beside {', '.join(f'{name}: {n} wrong' for name, n in wrong.items())}")
+    return 1 if any(wrong.values()) else 0
 
 
 if __name__ == "__main__":
-    sys.exit(main(sys.argv[1], int(sys.argv[2])))
+    sys.exit(main(sys.argv[1], sys.argv[2], int(sys.argv[3])))
