@@ -131,6 +131,7 @@ Spalten der Preis sein, so fragt er, und --column price=ÜBERSCHRIFT antwortet. 
         "Die Liste mit berichtigten Nummern schreiben, soweit klar ist, welche es sind",
     "File of the corrected list, or - for standard output": "Die Datei der berichtigten Liste, oder - für die Standardausgabe",
     "Print only the lines that are refused": "Nur die abgelehnten Zeilen zeigen",
+    "Refuse what is a warning otherwise": "Ablehnen, was sonst eine Warnung ist",
     "Print a JSON object for each line": "Je Zeile ein JSON-Objekt schreiben",
     "--fix and -o FILE go together: write both, as in --fix -o fixed.csv":
         "--fix und -o FILE gehören zusammen: bitte beides schreiben, etwa --fix -o neu.csv",
@@ -142,6 +143,9 @@ tabs between. The last line is a sum, and the status is 1 if a line is refused. 
 that are clearly meant in place of ="4012345010008", 4.012345010008E+12, EAN: 4012345010008, an ISBN of ten digits, or a
 number without its zeros in front.
 
+A warning behind a line names elements that the standard does not let stand together, and codes of no country or
+currency. --strict refuses such a line.
+
   $ noriladle check supplier.csv
   $ noriladle check supplier.csv --fix -o fixed.csv
 """: """
@@ -152,6 +156,9 @@ und was er sagt, oder warum er abgelehnt ist, was zu tun ist, und der Name des A
 und der Status ist 1, wenn eine Zeile abgelehnt ist. --fix schreibt die Liste mit den Nummern, die klar gemeint sind, an
 Stelle von ="4012345010008", 4.012345010008E+12, EAN: 4012345010008, einer ISBN mit zehn Stellen oder einer Nummer ohne
 ihre Nullen davor.
+
+Eine Warnung hinter einer Zeile nennt Elemente, die nach der Norm nicht zusammen stehen, und Codes, die kein Land und keine
+Währung haben. Mit --strict ist eine solche Zeile abgelehnt.
 
   $ noriladle check lieferant.csv
   $ noriladle check lieferant.csv --fix -o neu.csv

@@ -42,12 +42,17 @@ def save(name, text, encoding="utf-8"):
 
 # ---- check
 
+# What a batch asks for.
+ALONE = "10 needs 01 or 02 or 03 or 8006 or 8026"
+
+
 def test_check(folder, capsys):
     save("a", "978-3-16-148410-0\n\n96385075\n(10)A\n]C110A\n^10A^17261231\n(10)A)\n")
     assert told(["check", "a"], capsys) == (1, [
         "1\t978-3-16-148410-0\t(01)09783161484100",
         "3\t96385075\trefused 3 CheckDigit\ta digit is wrong; if it is the last one, 96385074 is right",
-        "4\t(10)A\t(10)A", "5\t]C110A\t]C1 (10)A", "6\t^10A^17261231\t(10)A(17)261231",
+        f"4\t(10)A\t(10)A\twarning: {ALONE}", f"5\t]C110A\t]C1 (10)A\twarning: {ALONE}",
+        f"6\t^10A^17261231\t(10)A(17)261231\twarning: {ALONE}; 17 needs 01 or 02 or 03 or 255 or 8006 or 8026",
         "7\t(10)A)\trefused 5 UnknownAi\tparentheses stand around Application Identifiers alone, as in (01)09501101530003(10)AB; if a value has some, "
         "write [01]09501101530003[10]A(B)"], ["a: 2 of 6 lines refused"])
     assert told(["check", "a", "--refused"], capsys)[1] == told(["check", "a"], capsys)[1][1:2] + told(["check", "a"], capsys)[1][5:]
@@ -69,7 +74,7 @@ def test_a_gtin_in_a_column_of_element_strings_is_asked_about(folder, capsys):
     status, out, _ = told(["check", "a.csv"], capsys)
     assert status == 1 and out == [
         "2\t9501101530003\trefused 40 Kind\tis this a GTIN, or are these elements? write (01)09501101530003 or ^9501101530003\tOats",
-        "3\t^9501101530003\t(95)01101530003", "4\t^109501\t(10)9501", "5\t(01)09501101530003\t(01)09501101530003"]
+        "3\t^9501101530003\t(95)01101530003", f"4\t^109501\t(10)9501\twarning: {ALONE}", "5\t(01)09501101530003\t(01)09501101530003"]
     assert told(["labels", "a.csv", "--no-price", "-o", "a.svg"], capsys)[2][-2:] == [
         "a.csv:2: 9501101530003: refused 40 Kind: is this a GTIN, or are these elements? write (01)09501101530003 or ^9501101530003",
         "a.csv: 1 line refused, so nothing was written"]
@@ -86,10 +91,28 @@ def test_check_as_json(folder, capsys):
     assert status == 1
     assert [json.loads(line) for line in out][:2] == [
         {"line": 1, "text": "]C110A\x1d17261231", "identifier": "]C1", "gtin": None, "elements": [
-            {"ai": "10", "value": "A"}, {"ai": "17", "value": "261231", "date": "2026-12-31"}]},
+            {"ai": "10", "value": "A"}, {"ai": "17", "value": "261231", "date": "2026-12-31"}],
+         "conflicts": [ALONE, "17 needs 01 or 02 or 03 or 255 or 8006 or 8026"]},
         {"line": 2, "text": "96385075", "refused": 3, "name": "CheckDigit", "place": None,
          "remedy": "a digit is wrong; if it is the last one, 96385074 is right", "fixes": ["96385074"]}]
     assert [json.loads(out[2])[key] for key in ("refused", "name", "place", "fixes")] == [5, "UnknownAi", None, ["[10]A)"]]
+
+
+def test_conflicts_are_warnings_unless_check_is_strict(folder, capsys, monkeypatch):
+    save("a", "9501101530003\n(01)09501101530003(37)5\n(17)261231(01)09501101530003(17)271231(401)A1\n(01)09501101530003(422)281(3912)0011(8020)1(415)9501101530003\n")
+    found = ["01 excludes 37; 37 needs 02 or 8026", "17: 261231 and 271231 differ; 401: A1 is no GS1 Company Prefix",
+             "422: 281 is no country; 3912: 001 is no currency"]
+    status, out, err = told(["check", "a"], capsys)
+    assert (status, [line.split("\t")[3:] for line in out], err) == (0, [[], *([f"warning: {it}"] for it in found)], ["a: all 4 lines are right"])
+    assert told(["check", "a", "--refused"], capsys)[:2] == (0, [])
+    status, out, err = told(["check", "a", "--strict", "--refused"], capsys)
+    assert (status, [line.split("\t")[3:] for line in out], err) == (1, [[f"refused: {it}"] for it in found], ["a: 3 of 4 lines refused"])
+    status, out, _ = told(["check", "a", "--strict", "--json"], capsys)
+    assert (status, [json.loads(line).get("conflicts") for line in out]) == (1, [None, *(it.split("; ") for it in found)])
+    monkeypatch.setenv("LC_ALL", "de_DE.UTF-8")
+    assert [line.split("\t")[3:] for line in told(["check", "a"], capsys)[1]][1:] == [
+        ["warning: 01 schließt 37 aus; 37 braucht 02 oder 8026"], ["warning: 17: 261231 und 271231 widersprechen sich; 401: A1 ist keine GS1-Basisnummer"],
+        ["warning: 422: 281 ist kein Land; 3912: 001 ist keine Währung"]]
 
 
 def test_check_of_standard_input(folder, capsys, monkeypatch):

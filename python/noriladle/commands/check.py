@@ -18,6 +18,7 @@ from __future__ import annotations
 import argparse
 import json
 import sys
+from functools import reduce
 from pathlib import Path
 from typing import Any, Dict, Iterator, NamedTuple, Optional, Tuple
 
@@ -154,10 +155,20 @@ def _row(checked: Checked, found: str) -> str:
     text = " ".join(checked.text.replace("\x1d", "^").split())
     if checked.answer:
         identifier = checked.answer.identifier
-        said = f"\t{found}: {'; '.join(map(str, checked.found))}" if checked.found else ""
+        said = f"\t{found}: {'; '.join(map(_words, checked.found))}" if checked.found else ""
         return f"{checked.line}\t{text}\t{f'{identifier} ' if identifier else ''}{checked.answer.text}{said}"
     article = f"\t{checked.article}" if checked.article else ""
     return f"{checked.line}\t{text}\t{checked.refusal}\t{checked.remedy}{article}"
+
+
+def _words(it: Conflict) -> str:
+    """What a conflict is, in the language that is spoken."""
+    ai = it.element.ai
+    if it.other:
+        return told("differs", ai, it.other.value, it.element.value) if it.kind == "differs" else told("excludes", ai, it.other.ai)
+    if it.kind == "needs":
+        return told("needs", ai, reduce(lambda ais, other: told("either", ais, other), it.text.split(",")))
+    return told(f"no{it.kind.title()}", ai, it.text)
 
 
 def _named(checked: Checked) -> str:
