@@ -126,11 +126,9 @@ def _tls_of(words: argparse.Namespace) -> Optional[Tls]:
 
 def _refuse_anyone(words: argparse.Namespace) -> None:
     """Refuses a port for other machines that is open to everyone, or whose tokens everyone can read."""
-    if words.port is None or words.anyone or _is_near(words.host):
-        return
     missing = [said for is_there, said in ((words.tls, "TLS (--cert and --key)"),
                                            (words.ca or words.rights != all_rights(), "a table of rights, or --ca")) if not is_there]
-    if missing:
+    if missing and not (words.port is None or words.anyone or _is_near(words.host)):
         raise WrongWords(f"other machines reach {words.host}: it needs {' and '.join(missing)}; with --anyone it goes without")
 
 
