@@ -96,9 +96,10 @@ _library.gs1_picture.argtypes = [
 _library.gs1_picture_room.argtypes = [_U32, _U32]
 _library.gs1_text.argtypes = [_BYTES, _SIZE, _U16, _BYTES, _SIZE]
 _library.gs1_digit.argtypes = [_BYTES, _SIZE, _BYTES, _SIZE]
+_library.gs1_gtin.argtypes = [_BYTES, _SIZE, _BYTES, _SIZE]
 _library.gs1_symbol.argtypes = [_U32, _BYTES, _SIZE, _U16, _BYTES, _SIZE]
 _library.gs1_label.argtypes = [_U32, _BYTES, _SIZE, _U16, _U16, _U16, _U16, _BYTES, _SIZE]
-for _name in ("gs1_text", "gs1_find", "gs1_find_dots", "gs1_picture", "gs1_picture_room", "gs1_digit", "gs1_label", "gs1_symbol", "gs1_conflicts"):
+for _name in ("gs1_text", "gs1_find", "gs1_find_dots", "gs1_picture", "gs1_picture_room", "gs1_digit", "gs1_gtin", "gs1_label", "gs1_symbol", "gs1_conflicts"):
     getattr(_library, _name).restype = _SIZE
 
 
@@ -433,6 +434,13 @@ def _read(call: Any, *words: Any) -> Answer:
     if isinstance(said, Refusal):
         raise said
     return said
+
+
+def _gtins(texts: Iterable[bytes]) -> List[Optional[str]]:
+    """The 14 digits of each text that is a GTIN, for many texts; None if it is none, or eight digits that may be a UPC-E, too."""
+    call, out = _library.gs1_gtin, ctypes.create_string_buffer(32)
+    return [out.raw[5:19].decode("ascii") if text.isdigit() and call(text, len(text), out, 32) == 19 and (len(text) != 8 or text[0] != 48) else None
+            for text in texts]
 
 
 def _said_in(line: bytes, terms: int) -> Union[Answer, Refusal]:

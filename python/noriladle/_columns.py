@@ -23,7 +23,7 @@ _BESIDE = {*FIELDS, "content"}
 """Meanings of columns that are chosen after the price, so that they change nothing in its choice."""
 _MOST_TITLES = 10
 """The heading is one of the first 10 records."""
-_SAMPLE = 200
+SAMPLE = 200
 """How many records decide what a column is."""
 _PRICE = re.compile(r"[^\d\s]{0,3}\s?\d{1,6}[.,]\d{2}\s?[^\d\s]{0,4}")
 
@@ -105,7 +105,7 @@ class _Look:
         self.titles = next((at for at, record in enumerate(sheet.records[:_MOST_TITLES])
                             if {"gtin", "gs1"} & self._meanings(record, own).keys()), 0)
         self.records = sheet.records[self.titles:]
-        self.first, self.sample = self.records[0], self.records[:_SAMPLE]
+        self.first, self.sample = self.records[0], self.records[:SAMPLE]
         self.wide = max(len(record.cells) for record in self.sample)
         self.headed = self._headed(own)
         self.right, self.looking, self.number = max(map(self._score, range(self.wide)), key=lambda score: score[:2])
@@ -183,7 +183,7 @@ class _Look:
             if places[meaning] == places.get("price") or meaning == "unit-price" and not self._has_unit(places[meaning][0]):
                 del places[meaning]
         if is_found and self.sheet.delimiter != WHOLE_LINES:
-            self._guess_name(places, records[:_SAMPLE])
+            self._guess_name(places, records[:SAMPLE])
         return self._table(places, records, choice, headings, is_found)
 
     def _table(
@@ -296,7 +296,7 @@ class _Look:
 
     def _amounts(self, free: Sequence[int], records: Sequence[Record]) -> List[int]:
         """The columns whose cells mostly look like prices."""
-        sample = records[:_SAMPLE]
+        sample = records[:SAMPLE]
         cells = {place: [it.cells[place].strip() for it in sample if place < len(it.cells)] for place in free}
         return [place for place, its in cells.items() if 2 * sum(bool(_PRICE.fullmatch(it)) for it in its) > len(its)]
 

@@ -15,8 +15,8 @@ import zlib
 import pytest
 
 from noriladle.__main__ import main
-from noriladle import Symbols, commands
-from noriladle.commands import write_files
+from noriladle import Symbols, _plain, commands
+from noriladle.commands import _lists, check, write_files
 
 LIST = "ean;name;price\n4012345010008;Haferkekse;2,90\n96385074;Kaugummi;0,90\n"
 
@@ -113,6 +113,37 @@ def test_conflicts_are_warnings_unless_check_is_strict(folder, capsys, monkeypat
     assert [line.split("\t")[3:] for line in told(["check", "a"], capsys)[1]][1:] == [
         ["warning: 01 schließt 37 aus; 37 braucht 02 oder 8026"], ["warning: 17: 261231 und 271231 widersprechen sich; 401: A1 ist keine GS1-Basisnummer"],
         ["warning: 422: 281 ist kein Land; 3912: 001 ist keine Währung"]]
+
+
+PLAIN = "".join(f"{it}\n" for it in [
+    *["9501101530003"] * 300, "", " 9501101530003 ", "9501101530004", "96385074", "01234565", "00000000", "0" * 14, "\x1d", "12", "(01)09501101530003(10)A,B;C",
+    "]C110A\x1d17261231", "(01)09501101530003(37)5\r", "950110153000x\r4012345010008", "https://id.gs1.org/01/09501101530003"])
+
+
+@pytest.mark.parametrize("text, is_plain", [
+    (PLAIN, True), (PLAIN + "9501101530003", True), (PLAIN * 70, True), ("EAN\n" + PLAIN, False), (PLAIN + "Öl\n", False), (PLAIN + '"\n', False),
+    ("x;y\n" * 9 + PLAIN, False), (PLAIN[:1400], False),
+], ids=["plain", "no end", "long", "heading", "letters", "quotation mark", "columns", "short"])
+def test_a_long_list_is_read_as_a_short_one(text, is_plain, folder, capsys, monkeypatch):
+    save("a", text)
+    for words in ([], ["--json"], ["--refused"], ["--strict"], ["--ais", "profile", "--strict", "--refused", "--json"]):
+        seen, here = [], check.is_plain
+        monkeypatch.setattr(check, "is_plain", lambda *given: seen.append(here(*given)) or seen[0])
+        fast = told(["check", "a", *words], capsys)
+        monkeypatch.setattr(check, "is_plain", lambda *given: False)
+        assert fast == told(["check", "a", *words], capsys) and seen == [is_plain]
+        monkeypatch.setattr(check, "is_plain", here)
+
+
+def test_a_list_of_numbers_alone_may_have_any_length(folder, capsys, monkeypatch):
+    for module in (_plain, _lists):
+        monkeypatch.setattr(module, "LIMIT", 300_000)
+    save("a", "9501101530003\n" * 50_000)
+    status, out, err = told(["check", "a"], capsys)
+    assert (status, len(out), out[-1], err) == (0, 50_000, "50000\t9501101530003\t(01)09501101530003", ["a: all 50,000 lines are right"])
+    save("a", "9501101530003\n" * 50_000 + "Öl\n")
+    status, out, err = told(["check", "a"], capsys)
+    assert status == 1 and err == [f"a:{len(out) + 1}: the list has more than 300,000 bytes: split it"]
 
 
 def test_check_of_standard_input(folder, capsys, monkeypatch):

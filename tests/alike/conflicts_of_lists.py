@@ -111,7 +111,7 @@ def by_python(elements):
 
 
 def by_npm(package, every):
-    """The conflicts of every list, found by the npm package."""
+    """The conflicts of some lists, found by the npm package."""
     lines = "".join(f"{json.dumps(elements)}\n" for elements in every)
     said = subprocess.run(["node", str(ROOT / "tests/alike/npm_conflicts.mjs"), package], input=lines, stdout=subprocess.PIPE, text=True, check=True)
     return [[tuple(it) for it in json.loads(line)] for line in said.stdout.splitlines()]
@@ -137,6 +137,14 @@ def lists(chance):
         yield elements
 
 
+def asked_of_npm(package, every):
+    """Each list, and the conflicts that the npm package finds in it."""
+    while some := list(itertools.islice(every, 50_000)):
+        found = by_npm(package, some)
+        assert len(found) == len(some), "npm answers each list"
+        yield from zip(some, found)
+
+
 def in_order(found):
     """Rules of one element may stand in any order."""
     return sorted(found)
@@ -147,10 +155,7 @@ def main(path, package, count):
     library.gs1_conflicts.restype = ctypes.c_size_t
     library.gs1_conflicts.argtypes = [ctypes.c_char_p, ctypes.c_char_p, ctypes.c_size_t]
     kinds, wrong = dict.fromkeys(KINDS[1:], 0), dict.fromkeys(("model", "python", "npm"), 0)
-    every = list(itertools.islice(lists(random.Random(7)), count))
-    npm = by_npm(package, every)
-    assert len(npm) == count, "npm answers each list"
-    for elements, said in zip(every, npm):
+    for elements, said in asked_of_npm(package, itertools.islice(lists(random.Random(7)), count)):
         wanted, got = model(elements), by_c(library, elements)
         for it in wanted:
             kinds[it[1]] += 1

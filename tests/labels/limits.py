@@ -48,6 +48,12 @@ def main():
     seconds = measure("labels of 5,000 lines", ["labels", os.path.join(WORK, "5000.csv"), "-o", pdf], 7.5)
     measure("the same lines as .xlsx", ["labels", os.path.join(WORK, "5000.xlsx"), "-o", pdf], round(2.5 * seconds, 2))
     measure("check of 10,000 lines", ["check", os.path.join(WORK, "10000.csv")], 1)
+    long = os.path.join(WORK, "long.txt")
+    for count in (1, 3):
+        with open(long, "w", encoding="ascii") as file:
+            file.writelines(f"{checked(str(number))}\n" for number in range(10**12, 10**12 + 1_000_000 * count))
+        for words, limit in (([], 2 * count), (["--json"], 10 * count)):
+            measure(f"check of {count},000,000 numbers{' as JSON' if words else ''}", ["check", long, *words], limit, 80)
     refused = {"100,000 lines": "ean;name;price\n" + "4012345010008;x;1,00\n" * 100_000, "too many cells": ";" * 16_000_000,
                "empty lines": "\n" * 16_000_000, "quotation marks alone": '"' * 16_000_000, "one long cell": "ean;name\n" + "x" * 16_000_000,
                "wrong numbers": "ean;name;price\n" + "".join(f"{number:013};x;1,00\n" for number in range(10**12, 10**12 + 5_000))}
@@ -57,7 +63,7 @@ def main():
             file.write(text)
         measure(f"{name}, refused", ["labels", path, "-o", pdf], 2, 200, status=1)
     print("\n".join(FAULTS), file=sys.stderr, end="\n" if FAULTS else "")
-    print(f"{6 + len(refused)} limits of time and memory, {len(FAULTS)} broken")
+    print(f"{10 + len(refused)} limits of time and memory, {len(FAULTS)} broken")
     sys.exit(1 if FAULTS else 0)
 
 

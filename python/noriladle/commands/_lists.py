@@ -2,8 +2,9 @@
 from __future__ import annotations
 
 import argparse
+import contextlib
 import sys
-from typing import Dict
+from typing import BinaryIO, Dict, Iterator
 
 from .._encodings import NAMES, encoding_of
 from .._headings import MEANINGS
@@ -60,17 +61,40 @@ def name_of(words: argparse.Namespace) -> str:
     return told("input") if words.list == "-" else str(words.list)
 
 
+@contextlib.contextmanager
+def file_of(words: argparse.Namespace) -> Iterator[BinaryIO]:
+    """The file of the list, or standard input.
+
+    :raises WrongWords: it cannot be opened.
+    """
+    if words.list == "-":
+        if sys.stdin.isatty():
+            tell(told("typeList"))
+        yield sys.stdin.buffer
+        return
+    try:
+        file = open(words.list, "rb")
+    except OSError as error:
+        raise WrongWords(f"{words.list}: {error.strerror}") from error
+    with file:
+        yield file
+
+
+def first_of(words: argparse.Namespace, file: BinaryIO) -> bytes:
+    """The first bytes of the file; one more than the limit of a list, if it is too long.
+
+    :raises WrongWords: it cannot be read.
+    """
+    try:
+        return file.read(LIMIT + 1)
+    except OSError as error:
+        raise WrongWords(f"{words.list}: {error.strerror}") from error
+
+
 def read_list(words: argparse.Namespace) -> bytes:
     """The bytes of the list; one more than the limit, if it is too long.
 
     :raises WrongWords: it cannot be read.
     """
-    if words.list == "-":
-        if sys.stdin.isatty():
-            tell(told("typeList"))
-        return sys.stdin.buffer.read(LIMIT + 1)
-    try:
-        with open(words.list, "rb") as file:
-            return file.read(LIMIT + 1)
-    except OSError as error:
-        raise WrongWords(f"{words.list}: {error.strerror}") from error
+    with file_of(words) as file:
+        return first_of(words, file)

@@ -16,21 +16,26 @@ currency. --strict refuses such a line.
 from __future__ import annotations
 
 import argparse
+import itertools
 import json
 import sys
 from functools import reduce
 from pathlib import Path
-from typing import Any, Dict, Iterator, NamedTuple, Optional, Tuple
+from typing import Any, Dict, Iterable, Iterator, List, NamedTuple, Optional, Tuple
 
-from .. import Ais, Answer, Conflict, Refusal, conflicts
+from .. import Ais, Answer, Conflict, Refusal, _gtins, conflicts
 from .._columns import Table, table_of
 from .._lists import Faults, Record
+from .._plain import blocks_of, is_plain
 from .._advice import remedy_of
 from .._texts import in_column, read_text, short, stripped
 from .._shop import count_text, counted, told, translated
 from .._fixing import csv_of, fixed
 from . import REFUSED, RIGHT, Progress, WrongWords, add_ais, add_year, data_of, tell, write_files
-from ._lists import add_list, columns_of, name_of, read_list
+from ._lists import add_list, columns_of, file_of, first_of, name_of
+
+
+_ZEROS = "0" * 14
 
 
 def add_arguments(parser: argparse.ArgumentParser) -> None:
@@ -67,31 +72,68 @@ def run(words: argparse.Namespace) -> int:
     """Prints what each line of the list says."""
     if words.fix != bool(words.output):
         raise WrongWords(translated("--fix and -o FILE go together: write both, as in --fix -o fixed.csv"))
-    name = name_of(words)
+    name, columns, progress, count, refused = name_of(words), columns_of(words), Progress(), 0, 0
     try:
-        table = table_of(read_list(words), words.year, columns_of(words), words.encoding or "")
+        with file_of(words) as file:
+            data = first_of(words, file)
+            if not (words.fix or columns or words.encoding) and is_plain(data, words.year):
+                printed = _printed_plain(blocks_of(data, file), words)
+            else:
+                table = table_of(data, words.year, columns, words.encoding or "")
+                for note in table.notes():
+                    tell(f"{name}: {note}")
+                if words.fix:
+                    return _fix(table, name, words)
+                printed = (_printed(checked, words) for checked in checked_lines(table, words.year, words.ais))
+            for line, rows, texts, faults in printed:
+                if not sys.stdout.isatty():
+                    progress(told("checking", count_text(line)))
+                count, refused = count + texts, refused + faults
+                sys.stdout.write(rows)
     except Faults as error:
         for fault in error.faults:
             tell(f"{name}:{fault.line}: {fault.said}")
         return REFUSED
-    for note in table.notes():
-        tell(f"{name}: {note}")
-    if words.fix:
-        return _fix(table, name, words)
-    progress, count, refused = Progress(), 0, 0
-    for checked in checked_lines(table, words.year, words.ais):
-        if not sys.stdout.isatty():
-            progress(told("checking", count_text(checked.line)))
-        is_refused = not checked.answer or words.strict and bool(checked.found)
-        count, refused = count + 1, refused + is_refused
-        if is_refused or not words.refused:
-            row = json.dumps(_data(checked), ensure_ascii=False) if words.json else _row(checked, "refused" if is_refused else "warning")
-            sys.stdout.write(f"{row}\n")
-    progress.end()
-    sys.stdout.flush()
+    finally:
+        progress.end()
+        sys.stdout.flush()
     if count:
         tell(f"{name}: {counted('refusedOf', refused, count_text(count)) if refused else counted('allRight', count)}")
     return REFUSED if refused else RIGHT
+
+
+class _Printed(NamedTuple):
+    """What is printed of some lines."""
+
+    line: int
+    """The last of them."""
+    rows: str
+    texts: int
+    refused: int
+
+
+def _printed(checked: Checked, words: argparse.Namespace) -> _Printed:
+    is_refused = not checked.answer or words.strict and bool(checked.found)
+    if words.refused and not is_refused:
+        return _Printed(checked.line, "", 1, 0)
+    row = json.dumps(_data(checked), ensure_ascii=False) if words.json else _row(checked, "refused" if is_refused else "warning")
+    return _Printed(checked.line, f"{row}\n", 1, is_refused)
+
+
+def _printed_plain(blocks: Iterable[Tuple[int, List[bytes]]], words: argparse.Namespace) -> Iterator[_Printed]:
+    """The same of a list with one text a line, a block at a time. Nothing can contradict a number that stands alone."""
+    for line, texts in blocks:
+        rows: List[str] = []
+        others: List[_Printed] = []
+        for line, text, digits in zip(itertools.count(line), map(bytes.decode, texts), _gtins(texts)):
+            if digits and digits != _ZEROS:
+                rows.append(f'{{"line": {line}, "text": "{text}", "identifier": null, "gtin": "{digits}", '
+                            f'"elements": [{{"ai": "01", "value": "{digits}"}}]}}\n' if words.json else f"{line}\t{text}\t(01){digits}\n")
+            elif text.strip():
+                others.append(_printed(_checked(line, stripped(text), False, words.year, words.ais), words))
+                rows.append(others[-1].rows)
+        refused = sum(it.refused for it in others)
+        yield _Printed(line, "".join(it.rows for it in others) if words.refused else "".join(rows), len(rows), refused)
 
 
 def _fix(table: Table, name: str, words: argparse.Namespace) -> int:
