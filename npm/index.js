@@ -189,8 +189,7 @@ class Gs1 {
   }
 
   compose(elements, year = new Date().getFullYear()) {
-    const pairs = Array.from(elements, (it) => (Array.isArray(it) ? { ai: it[0], value: it[1] } : it));
-    if (!pairs.every((it) => typeof it?.ai === "string" && typeof it?.value === "string")) throw new TypeError("an element has an AI and a value, both strings");
+    const pairs = listOf(Array.from(elements, (it) => (Array.isArray(it) ? { ai: it[0], value: it[1] } : it)));
     const text = pairs.map(({ ai, value }, i) => {
       noting({ call: "compose", ai, text: value }, () => this.#checkPair(ai, value, year, i));
       return `${i && needsSeparator(pairs[i - 1].ai) ? "\x1d" : ""}${ai}${value}`;
@@ -200,8 +199,10 @@ class Gs1 {
   }
 
   conflicts(elements) {
-    const listed = Array.from(elements), ends = listed.reduce((all, { ai, value }) => [...all, all.at(-1) + ai.length + value.length], [0]);
+    const listed = listOf(elements), ends = listed.reduce((all, { ai, value }) => [...all, all.at(-1) + ai.length + value.length], [0]);
     if (listed.length > 48 || ends.at(-1) > 192) throw new Refusal(11, "TooLong");
+    const strange = listed.findIndex(({ ai, value }) => /[^\x01-\x7f]/.test(ai + value));
+    if (strange >= 0) throw new Refusal(7, "ValueCharacter", strange);
     const view = new DataView(this.#calls.bytes.buffer, this.#calls.input);
     [[5, listed.length], [6, ends.at(-1)]].forEach(([at, byte]) => view.setUint8(at, byte));
     this.#calls.bytes.set(new TextEncoder().encode(listed.map(({ ai, value }) => ai + value).join("")).subarray(0, 192), 12);
@@ -326,6 +327,14 @@ class Gs1 {
     if (read[0].ai !== ai) throw new Refusal(5, "UnknownAi", at);
     if (read.length !== 1 || read[0].value !== value) throw more();
   }
+}
+
+// Elements as an array.
+function listOf(elements) {
+  if (typeof elements?.[Symbol.iterator] !== "function") throw new TypeError(`elements are an array or an answer, and not ${nameOf(elements)}`);
+  const listed = Array.from(elements);
+  if (!listed.every((it) => typeof it?.ai === "string" && typeof it?.value === "string")) throw new TypeError("an element has an AI and a value, both strings");
+  return listed;
 }
 
 // A conflict of these elements, in `struct gs1_conflict` of gs1.h.

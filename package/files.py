@@ -9,13 +9,14 @@ import hashlib
 import os
 import re
 import shutil
+import struct
 import subprocess
 import sys
 import tempfile
 import zlib
 from functools import lru_cache
 from pathlib import Path
-from typing import Callable, Dict, List
+from typing import Callable, Dict, List, Tuple
 
 ROOT = Path(__file__).resolve().parent.parent
 VERSION = (ROOT / "VERSION").read_text("ascii").strip()
@@ -117,7 +118,7 @@ def built(name: str) -> bytes:
     if name == "wasm32/gs1_c.wasm":
         return _changed(built("wasm64/gs1_c.wasm"), "wasm-opt", *_LOWER)
     if name == "wasm32/gs1_texts.wasm":
-        return _changed(built("wasm32/gs1_c.wasm"), "wasm-metadce", *_TEXTS)
+        return _emptied(_changed(built("wasm32/gs1_c.wasm"), "wasm-metadce", *_TEXTS))
     if not re.fullmatch(r"(x86_64|aarch64)/(gs1_hub|libgs1\.a|libgs1\.so)|x86_64_v2/gs1_hub|wasm64/gs1_c\.wasm", name):
         raise NoFile(f"there is no {name}", NO_INPUT)
     _run("package/prove", crate, target)
@@ -133,6 +134,45 @@ def built(name: str) -> bytes:
 def _run(script: str, *words: str) -> None:
     if subprocess.run([str(ROOT / script), *words], check=False, stdout=sys.stderr).returncode:
         raise NoFile(f"{script} could not build it, as it says above", 70)
+
+
+def _number(module: bytes, at: int) -> Tuple[int, int]:
+    """The number that begins here in a module, and the index behind it."""
+    value, shift = 0, 0
+    while module[at] & 128:
+        value, shift, at = value | (module[at] & 127) << shift, shift + 7, at + 1
+    return value | module[at] << shift, at + 1
+
+
+def _emptied(module: bytes) -> bytes:
+    """A module of texts with zeros for the lists of conflicts, which no call about texts reads, since zeros pack to nothing.
+
+    :raises NoFile: the lists are not in it as they are in the sources.
+    """
+    sources = "".join((ROOT / "crates" / "answer_core" / "src" / name).read_text("utf-8") for name in ("association.rt", "code.rt"))
+    lists = {it.encode("ascii") for it in re.findall(r'b"([^"]+)"', sources)}
+    # The section of data has one segment, at an address.
+    at = 8
+    while module[at] != 11:
+        size, at = _number(module, at + 1)
+        at += size
+    count, at = _number(module, _number(module, at + 1)[1])
+    address, at = _number(module, at + 2)
+    first, changed, found = _number(module, at + 1)[1], bytearray(module), 0
+    long = {it: module.find(it, first) for it in lists if len(it) >= 12}
+    end = max(long.values())
+    for it, at in long.items():
+        changed[at:at + len(it)] = bytes(len(it))
+    # Each list has its address and its length in an array before the last of them.
+    for at in range(first, end):
+        here, length = struct.unpack_from("<QQ", module, at)
+        here += first - address
+        if length and first <= here < end + 1000 and module[here:here + length] in lists:
+            changed[at:at + 16], found = bytes(16), found + 1
+    wanted = 2 * len(re.findall(r"  Association \{ ", sources)) + len(re.findall(r"  CodedAis \{ ", sources))
+    if count != 1 or found != wanted or -1 in long.values():
+        raise NoFile(f"the lists of conflicts stand {found} times in the module of texts, and not {wanted}", 70)
+    return bytes(changed)
 
 
 def _changed(module: bytes, tool: str, *words: str) -> bytes:

@@ -849,12 +849,13 @@ def conflicts(elements: Iterable[Element]) -> List[Conflict]:
         >>> [str(it) for it in conflicts(answer)]
         ['01 excludes 37', '37 needs 02 or 8026', '422: 281 is no country']
 
-    :raises Refusal: 11 ``TooLong`` for more elements than an element string has.
+    :raises Refusal: 11 ``TooLong`` for more elements than an element string has; 7 ``ValueCharacter`` for letters that no
+        element has, with the index of the element.
     """
     listed = elements if isinstance(elements, Answer) else Answer(None, tuple(elements))
     text, places = listed.__dict__.get("_told") or _told_of(listed.elements)
     raw, found = _RawAnswer(), _RawConflicts()
-    _HEAD.pack_into(raw, 0, 0, _NO_PLACE, 0, len(places) // _PLACE.size, len(text), 255, b"", text.encode("ascii", "replace"))
+    _HEAD.pack_into(raw, 0, 0, _NO_PLACE, 0, len(places) // _PLACE.size, len(text), 255, b"", text.encode("ascii"))
     ctypes.memmove(ctypes.byref(raw, _HEAD.size), places, len(places))
     count = _library.gs1_conflicts(raw, found, _MOST_CONFLICTS)
     return [_conflict(listed.elements, *_CONFLICT.unpack_from(found, _CONFLICT.size * at)) for at in range(count)]
@@ -869,6 +870,9 @@ def _told_of(elements: Sequence[Element]) -> Tuple[str, bytes]:
     ends = list(accumulate(len(element.ai + element.value) for element in elements))
     if len(elements) > _MOST_ELEMENTS or sum(ends[-1:]) > _MOST_TEXT:
         raise Refusal(11, "TooLong")
+    for at, element in enumerate(elements):
+        if not (element.ai + element.value).isascii():
+            raise Refusal(7, "ValueCharacter", at)
     starts = [0, *ends]
     places = (_PLACE.pack(start, start + len(element.ai), end, *[0] * 12) for element, start, end in zip(elements, starts, ends))
     return "".join(element.ai + element.value for element in elements), b"".join(places)

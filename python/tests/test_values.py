@@ -180,6 +180,9 @@ def test_conflicts_of_an_answer():
         with pytest.raises(Refusal) as raised:
             conflicts(long)
         assert raised.value.name == "TooLong"
+    with pytest.raises(Refusal) as raised:
+        conflicts([Element("01", "1"), Element("10", "é")])
+    assert (raised.value.name, raised.value.place) == ("ValueCharacter", 1)
 
 
 def test_the_year_is_this_year_unless_one_is_given():

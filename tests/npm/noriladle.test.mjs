@@ -158,6 +158,8 @@ test("what is asked of elements that stand together", () => {
   assert.deepEqual([found.kind, found.element, found.other, found.code, found.text, others], ["differs", answer.elements[2], answer.elements[0], "", "17: 261231 and 271231 differ", []]);
   assert.deepEqual([gs1.conflicts([]), gs1.conflicts(gs1.readScan("9501101530003", 2026))], [[], []]);
   for (const long of [Array(49).fill({ ai: "10", value: "A" }), Array(2).fill({ ai: "10", value: "A".repeat(95) })]) assert.throws(() => gs1.conflicts(long), { number: 11 });
+  for (const wrong of [5, undefined, "01", [{ ai: "01" }]]) assert.throws(() => gs1.conflicts(wrong), TypeError);
+  assert.throws(() => gs1.conflicts([{ ai: "01", value: "1" }, { ai: "10", value: "é" }]), { number: 7, place: 1 });
 });
 
 test("the symbol of a label in modules", () => {
@@ -221,7 +223,7 @@ test("the entry for texts answers as the whole package", async () => {
   assert.throws(() => texts.readScan(5, 2026), TypeError);
 });
 
-test("the entry for texts is small", { todo: "its module has the tables of conflicts, which it does not use" }, () => {
+test("the entry for texts is small", () => {
   const folder = path.dirname(fileURLToPath(import.meta.resolve("noriladle/texts")));
   const size = ["texts.js", "texts.module.js"].reduce((sum, name) => sum + gzipSync(fs.readFileSync(path.join(folder, name)), { level: 9 }).length, 0);
   assert.ok(size <= 22_000, `${size} bytes`);
