@@ -3,7 +3,7 @@
 use crate::area::{Area, Size};
 use crate::frame::{Frame, ONE, Spot, over};
 use crate::grid::Grid;
-use crate::patch::{across, across_most, along, grid_over};
+use crate::patch::{across, along, grid_over};
 use crate::reader::Reader;
 use crate::room::RowRoom;
 use crate::said::Furthest;
@@ -17,7 +17,7 @@ use line_reader::Turn;
 
 /// How a patch is looked at: how many lines a dot apart are taken in the mean, how many such rows at most, whether they go along the
 /// middles of the stripes, how close samples are, which blur is taken out, whether the bars are light and what is between them dark, by how much values
-/// come back where they turn, whether an end is where the way is steepest, and whether rows go across most of the stripes, not by the mean of all.
+/// come back where they turn, and whether an end is where the way is steepest.
 #[derive(Clone, Copy)]
 pub(crate) struct Look {
     pub(crate) lines: u32,
@@ -28,7 +28,6 @@ pub(crate) struct Look {
     pub(crate) is_inverted: bool,
     pub(crate) turn: Turn,
     pub(crate) by_slope: bool,
-    pub(crate) by_most: bool,
 }
 
 const USUAL: Look = Look {
@@ -43,7 +42,6 @@ const USUAL: Look = Look {
         least: 1536,
     },
     by_slope: false,
-    by_most: false,
 };
 
 /// Where values turn that come back by a little.
@@ -59,17 +57,13 @@ const FINER: Turn = Turn {
 };
 
 /// The looks, each if those before found nothing.
-pub(crate) const LOOKS: [Look; 11] = [
+pub(crate) const LOOKS: [Look; 10] = [
     Look {
         rows: 24,
         sampling: Sampling::Dots,
         ..USUAL
     },
     USUAL,
-    Look {
-        by_most: true,
-        ..USUAL
-    },
     Look {
         lines: 3,
         rows: 70,
@@ -462,11 +456,7 @@ pub(crate) fn read_patch(
     shown: &mut Shown,
     furthest: &mut Furthest,
 ) -> Taken {
-    let stripes = if look.by_most {
-        across_most(blocks, patch)
-    } else {
-        across(blocks, patch)
-    };
+    let stripes = across(blocks, patch);
     let frame = if look.is_aslant {
         along(blocks, patch, stripes)
     } else {

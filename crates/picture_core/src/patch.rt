@@ -23,16 +23,11 @@ fn product(one: i32, other: i32) -> i32
     one * other
 }
 
-/// Whether the angle between the doubled directions of two blocks has at least this cosine, times 1,048,576.
-fn go_so_near(one: Block, other: Block, least: i64) -> bool {
-    let cos = product(i32::from(one.cos), i32::from(other.cos));
-    let sin = product(i32::from(one.sin), i32::from(other.sin));
-    i64::from(cos) + i64::from(sin) >= least
-}
-
 /// Whether two blocks go one way, so that they may be of one symbol.
 fn go_one_way(one: Block, other: Block) -> bool {
-    go_so_near(one, other, ALIKE)
+    let cos = product(i32::from(one.cos), i32::from(other.cos));
+    let sin = product(i32::from(one.sin), i32::from(other.sin));
+    i64::from(cos) + i64::from(sin) >= ALIKE
 }
 
 /// Takes the blocks about a block that are left and go its way, into `queue` from `tail` on; where they end there.
@@ -137,39 +132,6 @@ pub(crate) fn across(blocks: &Blocks, patch: &[u32]) -> Frame {
         sum = sum.with(blocks.block(*number as usize));
     }
     sum.frame()
-}
-
-/// 1,048,576 times the cosine of 14 degrees: so near to one another are doubled directions of blocks that are of one symbol.
-const NEAR: i64 = 1_017_000;
-
-/// The sum of the directions of those blocks of a patch that go nearly the way of one.
-fn sum_near(blocks: &Blocks, patch: &[u32], one: Block) -> Direction {
-    let mut sum = Direction::none();
-    for number in patch {
-        let block = blocks.block(*number as usize);
-        if go_so_near(one, block, NEAR) {
-            sum = sum.with(block);
-        }
-    }
-    sum
-}
-
-/// So many blocks of a patch are asked how many others go nearly their way.
-const ASKED: usize = 32;
-
-/// The frame across most of a patch's stripes: print that hangs together with a symbol goes other ways and does not count.
-pub(crate) fn across_most(blocks: &Blocks, patch: &[u32]) -> Frame {
-    let mut most = Direction::none();
-    for asked in 0..ASKED {
-        let Some(number) = patch.get(patch.len().saturating_mul(asked) / ASKED) else {
-            break;
-        };
-        let near = sum_near(blocks, patch, blocks.block(*number as usize));
-        if near.blocks > most.blocks {
-            most = near;
-        }
-    }
-    most.frame()
 }
 
 /// The greatest slope of rows, in 1/65536: that of 30 degrees.

@@ -138,6 +138,58 @@ impl<'a> Picture<'a> {
         let row = (y / 65_536) as usize;
         Some(self.cubic_beside(column, row, x / 256 % 256, y / 256 % 256))
     }
+
+    /// What `cubic_at` gives, if no dot that counts there is beyond an edge.
+    #[inline(always)]
+    fn inner_at(&self, x: u32, y: u32) -> Option<u32> {
+        let x = x.wrapping_sub(HALF);
+        let y = y.wrapping_sub(HALF);
+        let left = ((x / 65_536) as usize).wrapping_sub(1);
+        let row = (y / 65_536) as usize;
+        if left >= self.width.saturating_sub(3) || row >= self.height.saturating_sub(1) {
+            return None;
+        }
+        let first = row.wrapping_mul(self.stride).wrapping_add(left);
+        let above = self.grey.get(first..first.wrapping_add(4))?;
+        let first = first.wrapping_add(self.stride);
+        let below = self.grey.get(first..first.wrapping_add(4))?;
+        let down = y / 256 % 256;
+        let dots = [
+            mixed_in(above, below, 0, down),
+            mixed_in(above, below, 1, down),
+            mixed_in(above, below, 2, down),
+            mixed_in(above, below, 3, down),
+        ];
+        Some(cubic_between(dots, x / 256 % 256))
+    }
+
+    /// What `cubic_at` gives. Nothing is promised here: it is for what is looked at before anything is told, and takes less time.
+    #[inline(always)]
+    pub(crate) fn value_at(&self, x: u32, y: u32) -> Option<u32> {
+        match self.inner_at(x, y) {
+            Some(value) => Some(value),
+            None => self.cubic_at(x, y),
+        }
+    }
+}
+
+/// What `cubic_beside` has between the second of four dots and the third, this many 256ths of the way from one to the other, by powers of the part.
+fn cubic_between(dots: [u32; 4], part: u32) -> u32 {
+    let [one, two, three, four] = dots.map(u64::from);
+    let part = u64::from(part);
+    let third = (3 * two).wrapping_add(four).wrapping_sub(3 * three + one);
+    let second = (2 * one + 4 * three).wrapping_sub(5 * two + four);
+    let first = three.wrapping_sub(one);
+    let all = part
+        .wrapping_mul(third)
+        .wrapping_add(second.wrapping_mul(256));
+    let all = part
+        .wrapping_mul(all)
+        .wrapping_add(first.wrapping_mul(65_536));
+    let all = part
+        .wrapping_mul(all)
+        .wrapping_add(two * 33_554_432 + 549_755_813_888);
+    (all / 33_554_432 % 4_294_967_296) as u32
 }
 
 /// Half a dot.

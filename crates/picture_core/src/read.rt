@@ -25,7 +25,7 @@ const FEWEST_BLOCKS: usize = 6;
 /// The first looks leave a patch if none of its rows has as many ends. The fewest bars of a symbol have 34, and some may be missing.
 const FIRST_LOOKS: usize = 2;
 
-const FEWEST_ENDS: usize = 12;
+const FEWEST_ENDS: usize = 20;
 
 /// How many dots looks take before no more patch is looked at, beside a quarter of those that the picture has.
 const MOST_TAKEN: usize = 2_000_000;

@@ -3,7 +3,8 @@ ghost use Rattle.std.specs.Prelude.{◌≡◌, ◌⊎◌, ◌+◌, ◌-◌, ◌*
 ghost use Rattle.picture_core.specs.Samples.{AreSamples, IsBeyondEdge, IsInPicture, IsSampleAt, cubic_at, sample_down, sample_right, samples_in, samples_sum};
 
 use crate::picture::Picture;
-use crate::seen_line::SeenLine;
+use crate::place::half_way;
+use crate::seen_line::{Sampling, SeenLine};
 
 /// Twice the middle of all values, in 1/256 grey value, which have 64 grey values more.
 const BOTH: u32 = 98_304;
@@ -140,19 +141,51 @@ pub(crate) fn are_samples(
 /// The most samples of a line.
 const MOST: usize = 65_535;
 
+/// Adds the values of a line to as many sums, up to the first that is not in the picture; how many.
+fn add_values(picture: &Picture, line: &SeenLine, lower: u32, sums: &mut [u32]) -> usize {
+    let mut x = line.right_at(0, lower);
+    let mut y = line.down_at(0, lower);
+    for (sample, sum) in sums.iter_mut().enumerate() {
+        let next_x = x.wrapping_add(line.across);
+        let next_y = y.wrapping_add(line.down);
+        let is_half = line.sampling == Sampling::Halves && sample % 2 == 1;
+        let value = if is_half {
+            picture.value_at(half_way(x, next_x), half_way(y, next_y))
+        } else {
+            picture.value_at(x, y)
+        };
+        let Some(value) = value else {
+            return sample;
+        };
+        *sum = sum.wrapping_add(value);
+        if is_half || line.sampling == Sampling::Dots {
+            x = next_x;
+            y = next_y;
+        }
+    }
+    sums.len()
+}
+
 /// Puts the means of lines at the front of `values`, up to the first sample that is not in the picture; how many.
 fn put_means(picture: &Picture, line: &SeenLine, values: &mut [u32]) -> usize {
-    if line.dots == 0 {
+    if line.dots == 0 || line.lines == 0 {
         return 0;
     }
     let most = line.sampling.samples_in(line.dots).min(MOST - 2);
-    let mut count = 0usize;
-    for (sample, value) in values.iter_mut().enumerate().take(most) {
-        let Some(mean) = sample_at(picture, line, sample as u32) else {
-            return count;
+    let room = most.min(values.len());
+    let sums = &mut values[..room];
+    sums.fill(0);
+    let mut count = room;
+    for lower in 0..u32::from(line.lines) {
+        count = add_values(picture, line, lower, &mut sums[..count.min(room)]);
+    }
+    for value in sums.iter_mut().take(count) {
+        let mean = *value / u32::from(line.lines);
+        *value = if line.is_inverted {
+            BOTH.saturating_sub(mean)
+        } else {
+            mean
         };
-        *value = mean;
-        count = sample.saturating_add(1);
     }
     count
 }
