@@ -1,9 +1,12 @@
 """Runs programs on inputs that scripts make, and measures their time and memory, for the programs of bench/."""
+from __future__ import annotations
+
 import contextlib
 import os
 import subprocess
 import sys
 import tempfile
+from typing import IO, Any, Iterable, Iterator, Mapping, Sequence
 
 HERE = os.path.dirname(os.path.abspath(__file__))
 ROOT = os.path.dirname(HERE)
@@ -28,7 +31,8 @@ os.write(int(sys.argv[1]), b"%d %f %f %d" % (code, wall, usage.ru_utime + usage.
 """
 
 
-def measure(words, source, sink, errors=None):
+def measure(words: Sequence[str], source: IO[bytes], sink: IO[bytes],
+            errors: IO[bytes] | int | None = None) -> tuple[int, float, float, float]:
     """The exit status, wall time and processor time in seconds, and peak memory in MiB, of a program and its words."""
     ours, theirs = os.pipe()
     command = [sys.executable, "-ISc", STARTER, str(theirs), *words]
@@ -39,9 +43,9 @@ def measure(words, source, sink, errors=None):
     return int(status), float(wall), float(processor), int(memory) / 1024
 
 
-def in_turn(jobs, count):
+def in_turn(jobs: Mapping[Any, tuple[Sequence[str], str]], count: int) -> dict[Any, tuple[tuple[float, ...], ...]]:
     """The wall times, processor times and peak memories of jobs, run in turn this many times. A job is its words and the path of an input."""
-    runs = {name: [] for name in jobs}
+    runs: dict[Any, list[list[float]]] = {name: [] for name in jobs}
     for _ in range(count):
         for name, (words, path) in jobs.items():
             with open(path, "rb") as source, open(os.devnull, "wb") as sink:
@@ -52,25 +56,25 @@ def in_turn(jobs, count):
     return {name: tuple(zip(*figures)) for name, figures in runs.items()}
 
 
-def built():
+def built() -> str:
     """The program, proved and built if it is not current; not the script, whose start would be measured too."""
     subprocess.run([os.path.join(ROOT, "gs1_hub"), "--help"], stdout=subprocess.DEVNULL, check=True)
     return os.path.join(ROOT, "crates", "gs1_hub", "out", "gs1_hub")
 
 
-def lanes_of(program, command, workers):
+def lanes_of(program: str, command: str, workers: int) -> list[str]:
     return [program, command, "--lanes", str(LANES), "--workers", str(workers), *YEAR]
 
 
-def scan_of(program, workers):
+def scan_of(program: str, workers: int) -> list[str]:
     return [program, "scan", *GRID, "--workers", str(workers), *YEAR]
 
 
-def print_of(program, *others):
+def print_of(program: str, *others: str) -> list[str]:
     return [program, "print", *GRID, *YEAR, *others]
 
 
-def kept(content):
+def kept(content: bytes) -> IO[bytes]:
     """A file with this content."""
     file = tempfile.NamedTemporaryFile()
     file.write(content)
@@ -78,19 +82,19 @@ def kept(content):
     return file
 
 
-def made(maker, *arguments):
+def made(maker: str, *arguments: object) -> bytes:
     """The output of a script that makes inputs."""
     words = [sys.executable, os.path.join(HERE, maker), *map(str, arguments)]
     return subprocess.run(words, stdout=subprocess.PIPE, check=True).stdout
 
 
-def output(words, path):
+def output(words: Sequence[str], path: str) -> bytes:
     with open(path, "rb") as source:
         return subprocess.run(words, stdin=source, stdout=subprocess.PIPE, check=True).stdout
 
 
 @contextlib.contextmanager
-def compiled(source, *words):
+def compiled(source: str, *words: str) -> Iterator[str]:
     """The compiled program of a file of bench/c."""
     with tempfile.TemporaryDirectory() as folder:
         program = os.path.join(folder, "program")
@@ -99,7 +103,7 @@ def compiled(source, *words):
         yield program
 
 
-def latency(sender, pause, command, lines):
+def latency(sender: Sequence[str], pause: int, command: Sequence[str], lines: Iterable[bytes]) -> tuple[int, ...]:
     """The time for each line that bench/c/latency.c sends alone after a pause of this many microseconds: the median and the 99th of 100, in
     microseconds."""
     told = subprocess.run([*sender, str(pause), *command], input=b"".join(lines), stdout=subprocess.PIPE, check=True).stdout

@@ -31,10 +31,15 @@ _Bool gs1_c_next(const uint8_t *line, size_t length, struct gs1_c_place *place);
 uint32_t gs1_c_read_message(const uint8_t *text, size_t length, uint16_t year, struct gs1_answer *answer);
 uint32_t gs1_c_read_elements(const uint8_t *text, size_t length, uint16_t year, struct gs1_answer *answer);
 uint32_t gs1_c_read_gtin(const uint8_t *digits, size_t length, uint16_t year, struct gs1_answer *answer);
+uint32_t gs1_c_read_text(const uint8_t *text, size_t length, uint16_t year, struct gs1_answer *answer);
 uint32_t gs1_c_read_row(const uint16_t *widths, size_t count, uint16_t year, struct gs1_answer *answer);
 uint32_t gs1_c_read_dots(const uint8_t *bits, size_t bytes, uint32_t count, uint16_t year, struct gs1_answer *answer);
 uint32_t gs1_c_read_data(const uint8_t *line, size_t length, uint16_t year, struct gs1_answer *answer);
+size_t gs1_c_read_messages(const uint8_t *text, size_t length, uint16_t year, struct gs1_answer *answers, size_t room, size_t *used);
+size_t gs1_c_read_gtins(const uint8_t *text, size_t length, uint16_t year, struct gs1_answer *answers, size_t room, size_t *used);
 size_t gs1_c_format(const struct gs1_answer *answer, uint32_t form, uint8_t *out, size_t room);
+size_t gs1_c_scan_text(const struct gs1_answer *answer, const uint8_t *identifier, size_t length, uint16_t year, uint8_t *out, size_t room);
+size_t gs1_c_link(const struct gs1_answer *answer, const uint8_t *stem, size_t length, uint16_t year, uint8_t *out, size_t room);
 size_t gs1_c_conflicts(const struct gs1_answer *answer, struct gs1_conflict *out, size_t room);
 uint32_t gs1_c_measure(const struct gs1_look *look, const struct gs1_article *article, uint16_t year, struct gs1_measure *measure);
 uint32_t gs1_c_plan(const struct gs1_look *look, const struct gs1_measure *measures, size_t count, struct gs1_plan *plan);
@@ -170,6 +175,10 @@ int gs1_read_gtin(const uint8_t *digits, size_t length, uint16_t year, struct gs
     return (int)gs1_c_read_gtin(READ(uint8_t, digits, length), year, INTO(answer));
 }
 
+int gs1_read_text(const uint8_t *text, size_t length, uint16_t year, struct gs1_answer *answer) {
+    return (int)gs1_c_read_text(READ(uint8_t, text, length), year, INTO(answer));
+}
+
 int gs1_read_row(const uint16_t *widths, size_t count, uint16_t year, struct gs1_answer *answer) {
     return (int)gs1_c_read_row(READ(uint16_t, widths, count), year, INTO(answer));
 }
@@ -182,11 +191,27 @@ int gs1_read_data(const uint8_t *line, size_t length, uint16_t year, struct gs1_
     return (int)gs1_c_read_data(READ(uint8_t, line, length), year, INTO(answer));
 }
 
+size_t gs1_read_messages(const uint8_t *text, size_t length, uint16_t year, struct gs1_answer *answers, size_t room, size_t *used) {
+    return gs1_c_read_messages(READ(uint8_t, text, length), year, WRITE(struct gs1_answer, answers, room), used ? used : &(size_t){0});
+}
+
+size_t gs1_read_gtins(const uint8_t *text, size_t length, uint16_t year, struct gs1_answer *answers, size_t room, size_t *used) {
+    return gs1_c_read_gtins(READ(uint8_t, text, length), year, WRITE(struct gs1_answer, answers, room), used ? used : &(size_t){0});
+}
+
 /* What stands for a null pointer: the answer to no text, `refused 40 Kind`. */
 static const struct gs1_answer no_answer = {.fault = GS1_FAULT_KIND, .place = GS1_NO_PLACE};
 
 size_t gs1_format(const struct gs1_answer *answer, enum gs1_form form, uint8_t *out, size_t room) {
     return gs1_c_format(answer ? answer : &no_answer, (uint32_t)form, OUT);
+}
+
+size_t gs1_scan_text(const struct gs1_answer *answer, const uint8_t *identifier, size_t length, uint16_t year, uint8_t *out, size_t room) {
+    return gs1_c_scan_text(answer ? answer : &no_answer, READ(uint8_t, identifier, length), year, OUT);
+}
+
+size_t gs1_link(const struct gs1_answer *answer, const uint8_t *stem, size_t length, uint16_t year, uint8_t *out, size_t room) {
+    return gs1_c_link(answer ? answer : &no_answer, READ(uint8_t, stem, length), year, OUT);
 }
 
 size_t gs1_conflicts(const struct gs1_answer *answer, struct gs1_conflict *conflicts, size_t room) {

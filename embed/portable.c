@@ -98,6 +98,32 @@ LINE(symbol, (uint32_t kind, const uint8_t *text, size_t length, uint16_t year, 
 LINE(label, (uint32_t kind, const uint8_t *text, size_t length, uint16_t year, uint16_t module_dots, uint16_t width, uint16_t height, uint8_t *out, size_t room),
      text, length, kind, at, length, year, module_dots, width, height)
 
+/* A call that writes a text of the elements of an answer. */
+#define WRITTEN(name)                                                                                                                             \
+    size_t gs1_c_##name(const struct gs1_answer *answer, const uint8_t *word, size_t length, uint16_t year, uint8_t *out, size_t room) {           \
+        begin();                                                                                                                                   \
+        const u64 from = given(answer, sizeof *answer), at = given(word, length), to = given(out, room);                                           \
+        return is_full ? no_memory(out, room) : told(Z_gs1Z_gs1_c_##name(&module, from, at, length, year, to, room), to, out, room);               \
+    }
+
+WRITTEN(scan_text) WRITTEN(link)
+
+/* A call that answers lines: none, if there is no memory for so many answers. */
+#define LINES(name)                                                                                                                               \
+    size_t gs1_c_##name(const uint8_t *text, size_t length, uint16_t year, struct gs1_answer *answers, size_t room, size_t *used) {                \
+        begin();                                                                                                                                   \
+        const u64 at = given(text, length), behind = place(sizeof(u64)), to = given(answers, (u64)room * sizeof *answers);                         \
+        u64 said = 0, count = is_full ? 0 : Z_gs1Z_gs1_c_##name(&module, at, length, year, to, room, behind);                                      \
+        if (!is_full) {                                                                                                                            \
+            memcpy(&said, memory->data + behind, sizeof said);                                                                                     \
+            memcpy(answers, memory->data + to, room * sizeof *answers);                                                                            \
+        }                                                                                                                                          \
+        *used = (size_t)said;                                                                                                                      \
+        return (size_t)count;                                                                                                                      \
+    }
+
+LINES(read_messages) LINES(read_gtins)
+
 size_t gs1_c_conflicts(const struct gs1_answer *answer, struct gs1_conflict *out, size_t room) {
     begin();
     const u64 at = given(answer, sizeof *answer), to = given(out, (u64)room * sizeof *out);
@@ -155,7 +181,7 @@ _Bool gs1_c_next(const uint8_t *line, size_t length, struct gs1_c_place *found) 
 
 #define READ_TEXT(name) ANSWER(name, (const uint8_t *text, size_t length, uint16_t year, struct gs1_answer *answer), text, length, at, length, year)
 
-READ_TEXT(read_message) READ_TEXT(read_elements) READ_TEXT(read_gtin) READ_TEXT(read_data)
+READ_TEXT(read_message) READ_TEXT(read_elements) READ_TEXT(read_gtin) READ_TEXT(read_text) READ_TEXT(read_data)
 ANSWER(read_row, (const uint16_t *widths, size_t count, uint16_t year, struct gs1_answer *answer), widths, (u64)count * 2, at, count, year)
 ANSWER(read_dots, (const uint8_t *bits, size_t bytes, uint32_t count, uint16_t year, struct gs1_answer *answer), bits, bytes, at, bytes, count, year)
 

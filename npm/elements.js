@@ -10,6 +10,3 @@ export function elementOf({ ai, value, date, until, time }) {
 
 // The AI that a text begins with: none begins another.
 export const aiAt = (text) => [2, 3, 4].map((count) => text.slice(0, count)).find((ai) => AIS.has(ai));
-
-// Whether a separator stands behind an element that is not the last.
-export const needsSeparator = (ai) => !AIS.get(ai)?.isPredefined;

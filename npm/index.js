@@ -1,13 +1,17 @@
 // GS1 barcodes for Node and browsers: turns the answers of the proved library into values of JavaScript.
 import { adviceOf, wordsOf } from "./advice.js";
-import { aiAt, elementOf, needsSeparator } from "./elements.js";
+import { aiAt, elementOf } from "./elements.js";
 import { MODULE, VERSION } from "./module.js";
-import { Gs1 as Calls, askFor, greyOf, gtinOf, isGtin, readText, stripped, symbolsShown } from "./page.js";
+import { Gs1 as Calls, RawAnswer, askFor, greyOf, gtinOf, isGtin, stripped, symbolsShown } from "./page.js";
 
 export { VERSION };
 
 // The largest input.
 const MOST_WIDTHS = 131_072, MOST_BYTES = 262_144, MOST_U16 = 65_535;
+
+// How many lines are answered by one call, how many letters they have at most, how many bytes `struct gs1_answer` has, and where a word stands
+// behind it.
+const LINES = 120, MOST_LINE = 700, ANSWER = 1_068, WORD = 2_048;
 
 // The kinds of conflicts, by their numbers in gs1.h, how many bytes each conflict has, and the most of an answer.
 const CONFLICTS = [undefined, "needs", "excludes", "differs", "country", "currency", "prefix"], CONFLICT = 48, MOST_CONFLICTS = 240;
@@ -55,15 +59,17 @@ function noting(asked, ask) {
   }
 }
 
-function isRead(ask) {
+// What is asked, or its error.
+function orRefusal(ask) {
   try {
-    ask();
-    return true;
+    return ask();
   } catch (error) {
-    if (error instanceof Refusal) return false;
+    if (error instanceof Refusal) return error;
     throw error;
   }
 }
+
+const isRead = (ask) => !(orRefusal(ask) instanceof Refusal);
 
 // What a call of this name was asked about a text. `ask` asks it about another.
 const askedOf = (call, text, ask, others) =>
@@ -123,16 +129,10 @@ class Gs1 {
 
   constructor(calls) {
     this.#calls = calls;
-    // For advice about numbers, which any module answers alike.
-    this.#askBy(ANY_YEAR);
-  }
-
-  // Lets the scripts of the page ask this module, by this year and these AIs.
-  #askBy(terms) {
-    const calls = this.#calls, asking = (call, by) => (text) => calls.read(call, ...calls.put(text), by);
+    // The scripts of the page ask this module, and for advice about numbers any module, which answers alike.
+    const asking = (call) => (text) => calls.read(call, ...calls.put(text), Calls.everyAi | ANY_YEAR);
     askFor({
-      gtin: asking("gs1_c_read_gtin", ANY_YEAR), scan: asking("gs1_c_read_message", terms), said: asking("gs1_c_read_data", ANY_YEAR),
-      digit: (text) => String(this.checkDigit(text)),
+      gtin: asking("gs1_c_read_gtin"), typed: asking("gs1_c_read_text"), said: asking("gs1_c_read_data"), digit: (text) => String(this.checkDigit(text)),
     });
   }
 
@@ -142,6 +142,30 @@ class Gs1 {
 
   readScan(text, year, options) {
     return noting(askedOf("readScan", text, (it) => this.#scan(it, year, options)), () => this.#scan(text, year, options));
+  }
+
+  readScans(texts, year, options) {
+    return this.#each("gs1_c_read_messages", texts, termsOf(year, options), answerOf, (text) => this.readScan(text, year, options));
+  }
+
+  readGtins(texts) { return this.#each("gs1_c_read_gtins", texts, ANY_YEAR, ({ text }) => text.slice("01".length), (text) => this.readGtin(text)); }
+
+  // What is made of each of many texts by a call of lines; what is refused, or cannot be a line, is asked about alone.
+  #each(call, texts, terms, made, one) {
+    const all = Array.from(texts), told = [];
+    for (let at = 0; at < all.length; at += LINES) {
+      const some = all.slice(at, at + LINES), areLines = some.every((it) => typeof it === "string" && it.length <= MOST_LINE && !/[\r\n]/.test(it));
+      const said = areLines ? this.#lines(call, some, terms) : [];
+      some.forEach((text, i) => told.push(said[i]?.fault === 0 ? made(said[i]) : orRefusal(() => one(text))));
+    }
+    return told;
+  }
+
+  // What a call says of lines. How many bytes of them it used stands before the structs.
+  #lines(call, lines, terms) {
+    const { calls, output } = this.#calls, at = output + 8, text = this.#put(bytesOf(lines.map((line) => `${line}\n`).join("")));
+    calls[call](...text, terms, BigInt(at), BigInt(lines.length), BigInt(output));
+    return lines.map((_, i) => new RawAnswer(calls.memory.buffer, at + ANSWER * i));
   }
 
   readText(text, year, options) {
@@ -166,10 +190,10 @@ class Gs1 {
     });
   }
 
-  #scan(text, year, options) {
+  #scan(text, year, options, call = "gs1_c_read_message") {
     const terms = termsOf(year, options), bytes = bytesOf(text);
     try {
-      return answerOf(this.#read("gs1_c_read_message", ...this.#put(bytes), terms));
+      return answerOf(this.#read(call, ...this.#put(bytes), terms));
     } catch (error) {
       if (!ELEMENT_STRINGS.includes(latin1(bytes.subarray(0, 3)))) throw error;
       // Places do not count a separator at the beginning.
@@ -179,34 +203,55 @@ class Gs1 {
 
   #text(text, year, options) {
     if (typeof text !== "string") throw new TypeError(`a text is a string, and not ${nameOf(text)}`);
-    const terms = termsOf(year, options), plain = stripped(text);
-    if (/^(\]|https?:\/\/)/i.test(plain)) return this.#scan(plain, year, options);
-    this.#put(bytesOf(plain));
-    this.#askBy(terms);
-    const said = readText(plain), refusal = said.refused ? this.#refusalIn(said.refused) : terms ? undefined : new Refusal(42, "Words");
-    if (refusal) throw refusal;
-    return answerOf(said);
+    return this.#scan(stripped(text), year, options, "gs1_c_read_text");
   }
 
-  compose(elements, year = new Date().getFullYear()) {
-    const pairs = listOf(Array.from(elements, (it) => (Array.isArray(it) ? { ai: it[0], value: it[1] } : it)));
-    const text = pairs.map(({ ai, value }, i) => {
-      noting({ call: "compose", ai, text: value }, () => this.#checkPair(ai, value, year, i));
-      return `${i && needsSeparator(pairs[i - 1].ai) ? "\x1d" : ""}${ai}${value}`;
-    }).join("");
-    noting({ call: "compose", ai: "", text: "" }, () => this.#parse(bytesOf(text), termsOf(year)));
-    return text;
+  compose(elements, year) {
+    const listed = listOf(Array.from(elements, (it) => (Array.isArray(it) ? { ai: it[0], value: it[1] } : it)));
+    const said = orRefusal(() => this.#written("gs1_c_scan_text", listed, "]C1", year));
+    if (typeof said === "string") return said.slice("]C1".length);
+    const refusal = said.fault === "TooLong" ? this.#tooLong(listed, year) : said, { ai, value } = listed[refusal.place] ?? { ai: "", value: "" };
+    ASKED.set(refusal, { call: "compose", ai, text: value });
+    throw refusal;
   }
 
-  conflicts(elements) {
-    const listed = listOf(elements), ends = listed.reduce((all, { ai, value }) => [...all, all.at(-1) + ai.length + value.length], [0]);
+  // The error of elements with too many characters: that of the first one that has an error, whose value may be long itself.
+  #tooLong(listed, year) {
+    for (const [at, { ai, value }] of listed.entries()) {
+      const said = orRefusal(() => this.compose([[ai.slice(0, 5), value.slice(0, 100)]], year));
+      if (said instanceof Refusal) return new Refusal(said.number, said.fault, at);
+    }
+    return new Refusal(11, "TooLong");
+  }
+
+  scanText(elements, identifier, year) { return this.#written("gs1_c_scan_text", listOf(elements), identifier, year); }
+
+  link(elements, stem = "https://id.gs1.org", year) { return this.#written("gs1_c_link", listOf(elements), stem, year); }
+
+  // What a call writes of elements.
+  #written(call, listed, word, year = new Date().getFullYear()) {
+    const bytes = bytesOf(word), terms = termsOf(year);
+    if (bytes.length > MOST_BYTES - WORD) throw new RangeError(`a text has at most ${MOST_BYTES - WORD} bytes`);
+    this.#putElements(listed);
+    this.#calls.bytes.set(bytes, WORD);
+    return this.#ask(call, BigInt(this.#calls.input), BigInt(this.#calls.input + WORD), BigInt(bytes.length), terms);
+  }
+
+  // Puts elements for a call, as `struct gs1_answer` of gs1.h.
+  #putElements(listed) {
+    const ends = listed.reduce((all, { ai, value }) => [...all, all.at(-1) + ai.length + value.length], [0]);
     if (listed.length > 48 || ends.at(-1) > 192) throw new Refusal(11, "TooLong");
     const strange = listed.findIndex(({ ai, value }) => /[^\x01-\x7f]/.test(ai + value));
     if (strange >= 0) throw new Refusal(7, "ValueCharacter", strange);
     const view = new DataView(this.#calls.bytes.buffer, this.#calls.input);
-    [[5, listed.length], [6, ends.at(-1)]].forEach(([at, byte]) => view.setUint8(at, byte));
+    [[0, 0], [1, 0], [5, listed.length], [6, ends.at(-1)]].forEach(([at, byte]) => view.setUint8(at, byte));
     this.#calls.bytes.set(new TextEncoder().encode(listed.map(({ ai, value }) => ai + value).join("")).subarray(0, 192), 12);
     listed.forEach(({ ai }, i) => [ends[i], ends[i] + ai.length, ends[i + 1]].forEach((index, k) => view.setUint8(204 + 18 * i + k, index)));
+  }
+
+  conflicts(elements) {
+    const listed = listOf(elements);
+    this.#putElements(listed);
     const count = Number(this.#calls.calls.gs1_c_conflicts(BigInt(this.#calls.input), BigInt(this.#calls.output), BigInt(MOST_CONFLICTS)));
     return Array.from({ length: count }, (_, i) => conflictOf(listed, this.#calls.answer.subarray(CONFLICT * i, CONFLICT * (i + 1))));
   }
@@ -310,22 +355,6 @@ class Gs1 {
     error.ai = aiAt(latin1(bytes.subarray(error.place, error.place + 4)));
     if (error.place > 0) error.before = this.#parse(bytes.subarray(0, error.place), terms);
     return error;
-  }
-
-  // Throws the error of a pair that is no element, with its index as the place.
-  #checkPair(ai, value, year, at) {
-    const more = () => new Refusal(...(value.includes("\x1d") ? [7, "ValueCharacter"] : [6, "ValueLength"]), at);
-    let read;
-    try {
-      read = this.#parse(bytesOf(ai + value), termsOf(year));
-    } catch (error) {
-      if (!(error instanceof Refusal) || error.fault === "Words") throw error;
-      // A value with anything after it is too long, and so is one that needs a separator in a text.
-      if (error.place || ["MissingSeparator", "TooLong"].includes(error.fault)) throw more();
-      throw error.fault === "Empty" ? new Refusal(5, "UnknownAi", at) : new Refusal(error.number, error.fault, at);
-    }
-    if (read[0].ai !== ai) throw new Refusal(5, "UnknownAi", at);
-    if (read.length !== 1 || read[0].value !== value) throw more();
   }
 }
 

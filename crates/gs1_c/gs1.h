@@ -241,6 +241,14 @@ int gs1_read_elements(const uint8_t *text, size_t length, uint16_t year, struct 
 /* A GTIN that is written with 8, 12, 13 or 14 digits, as the element of AI 01. */
 int gs1_read_gtin(const uint8_t *digits, size_t length, uint16_t year, struct gs1_answer *answer);
 
+/* What a text says as people type, print and paste it, in UTF-8: a number with blanks and hyphens, such as an ISBN; an element string with each
+ * AI in parentheses or each in brackets, as it is printed, or with byte 29 or `^` as the separator; and what gs1_read_message reads behind an
+ * identifier or a separator, and as a Digital Link. White space is ignored at the ends, around a printed value, and in one of digits alone. A
+ * printed value ends before the next AI: if a value has an AI in parentheses, put brackets around each AI. The place of a printed element is
+ * its offset in the string of AIs and values with a separator between each two elements. Zeros alone, and eight digits that begin with 0, are
+ * GS1_FAULT_KIND. */
+int gs1_read_text(const uint8_t *text, size_t length, uint16_t year, struct gs1_answer *answer);
+
 /* What a scanned row says, given as for gs1_row. */
 int gs1_read_row(const uint16_t *widths, size_t count, uint16_t year, struct gs1_answer *answer);
 
@@ -252,6 +260,20 @@ int gs1_read_dots(const uint8_t *bits, uint32_t count, uint16_t year, struct gs1
  * GS1_FAULT_KIND, without a place; and so is a line whose elements the year's terms do not allow. */
 int gs1_read_data(const uint8_t *line, size_t length, uint16_t year, struct gs1_answer *answer);
 
+/* The answers to the lines of a text, each as gs1_read_message or gs1_read_gtin gives it, for as many lines as there is room for. Returns how
+ * many lines it answered, and sets `*used` to the bytes of these lines with their ends, so that the next call begins there:
+ *
+ *     while (length > 0) {
+ *         size_t used, count = gs1_read_messages(text, length, year, answers, room, &used);
+ *         ..
+ *         text += used, length -= used;
+ *     }
+ *
+ * A line ends with a line feed, or a carriage return and a line feed; the last one may end with the text. In a text that you read in pieces,
+ * pass whole lines. `used` may be null. Without room, no line is answered. */
+size_t gs1_read_messages(const uint8_t *text, size_t length, uint16_t year, struct gs1_answer *answers, size_t room, size_t *used);
+size_t gs1_read_gtins(const uint8_t *text, size_t length, uint16_t year, struct gs1_answer *answers, size_t room, size_t *used);
+
 /* The forms of a line: `]C1 10=AB<TAB>17=261231`, and `]C1 (10)AB(17)261231`. */
 enum gs1_form { GS1_AS_DATA = 0, GS1_AS_HRI = 1 };
 
@@ -259,6 +281,21 @@ enum gs1_form { GS1_AS_DATA = 0, GS1_AS_HRI = 1 };
  * part filled the answer. You may change the answer or fill it yourself: any bytes give a line, in which a place that is no span of the text
  * is empty. If `form` is none of these, the line is `refused 40 Kind`. */
 size_t gs1_format(const struct gs1_answer *answer, enum gs1_form form, uint8_t *out, size_t room);
+
+/* The text that a scanner sends of a symbol with the elements of an answer, such as `]d2010950110153000310AB`. The identifier is `]C1` (GS1-128),
+ * `]e0` (DataBar), `]d2` (DataMatrix), `]Q3` (QR code) or `]J1` (DotCode); any other is `refused 40 Kind`. gs1_read_message reads the text as the
+ * same elements by the same year. The answer is an error's line if `answer` has an error. You may change the elements or fill them yourself:
+ * wrong ones are refused, with the index of the element as the place. It has at most GS1_LINE bytes. */
+size_t gs1_scan_text(const struct gs1_answer *answer, const uint8_t *identifier, size_t length, uint16_t year, uint8_t *out, size_t room);
+
+/* The most bytes of a link behind its stem. */
+#define GS1_LINK 672
+
+/* The GS1 Digital Link of the elements with a stem such as `https://id.gs1.org`: `https://id.gs1.org/01/09501101530003/10/AB?17=261231`. The first
+ * element whose AI is a key stands in the path with its qualifiers, and the others in the query. gs1_read_message reads it as the same elements in
+ * this order. Without a key, or with a stem that is no http or https URI or has a `?` or a `#`, it is `refused 40 Kind`; with too many bytes in this
+ * order, `refused 11 TooLong`. Other errors are those of gs1_scan_text. */
+size_t gs1_link(const struct gs1_answer *answer, const uint8_t *stem, size_t length, uint16_t year, uint8_t *out, size_t room);
 
 /* What is wrong with an element beside the others: it needs an element of one of the AIs of `text`, such as "01,02,310n", in which n stands for
  * any digit; it excludes the element `other`; the element `other`, before it, has the same AI and another value; or `text` is a code of no

@@ -29,7 +29,7 @@ import struct
 from dataclasses import dataclass, field
 from decimal import Decimal
 from functools import lru_cache, wraps
-from itertools import accumulate
+from itertools import accumulate, islice
 from pathlib import Path
 from typing import TYPE_CHECKING, Any, Callable, Dict, Iterable, Iterator, List, Literal, NamedTuple, Optional, Sequence, Tuple, TypeVar, Union, cast, get_args
 
@@ -43,7 +43,7 @@ if TYPE_CHECKING:
 __all__ = [
     "Ais", "Answer", "Box", "Conflict", "ConflictKind", "Element", "Found", "Kind", "LabelSymbol", "Place", "Refusal", "Symbol", "SymbolKind", "Symbols",
     "check_digit", "compose", "conflicts", "draw_label", "find", "find_dots", "label_symbol", "parse_elements", "read_dots",
-    "read_elements", "read_gtin", "read_picture", "read_row", "read_scan", "read_text",
+    "read_elements", "read_gtin", "read_gtins", "read_picture", "read_row", "read_scan", "read_scans", "read_text",
 ]
 
 __version__ = "2.0.0"
@@ -80,14 +80,22 @@ _NO_PLACE = 65_535
 
 _RawAnswer = ctypes.c_char * (_HEAD.size + _MOST_ELEMENTS * _PLACE.size)
 _RawConflicts = ctypes.c_char * (_MOST_CONFLICTS * _CONFLICT.size)
+_BATCH = 1024
+"""How many lines are answered by one call."""
+_RawAnswers = ctypes.c_char * (_BATCH * ctypes.sizeof(_RawAnswer))
+_GTIN = struct.Struct("<H12x14s1040x")
+"""``struct gs1_answer`` of a GTIN: fault, and its digits behind the AI."""
 assert (ctypes.sizeof(_RawAnswer), _CONFLICT.size) == (1068, 48), "the sizes that gs1.h promises"
 
 _library = ctypes.CDLL(str(Path(__file__).with_name("libgs1.so")))
 _SIZE, _U16, _U32, _BYTES, _WIDTHS = ctypes.c_size_t, ctypes.c_uint16, ctypes.c_uint32, ctypes.c_char_p, ctypes.POINTER(ctypes.c_uint16)
-for _name in ("gs1_read_message", "gs1_read_elements", "gs1_read_gtin", "gs1_read_data"):
+for _name in ("gs1_read_message", "gs1_read_elements", "gs1_read_gtin", "gs1_read_text", "gs1_read_data"):
     getattr(_library, _name).argtypes = [_BYTES, _SIZE, _U16, _RawAnswer]
+for _name in ("gs1_read_messages", "gs1_read_gtins"):
+    getattr(_library, _name).argtypes = [_BYTES, _SIZE, _U16, _RawAnswers, _SIZE, ctypes.c_void_p]
 _library.gs1_read_row.argtypes = [_WIDTHS, _SIZE, _U16, _RawAnswer]
 _library.gs1_read_dots.argtypes = [_BYTES, _U32, _U16, _RawAnswer]
+_library.gs1_scan_text.argtypes = _library.gs1_link.argtypes = [_RawAnswer, _BYTES, _SIZE, _U16, _BYTES, _SIZE]
 _library.gs1_conflicts.argtypes = [_RawAnswer, _RawConflicts, _SIZE]
 _library.gs1_find.argtypes = [_WIDTHS, _SIZE, _U16, _BYTES, _SIZE]
 _library.gs1_find_dots.argtypes = [_BYTES, _U32, _U16, _BYTES, _SIZE]
@@ -99,7 +107,8 @@ _library.gs1_digit.argtypes = [_BYTES, _SIZE, _BYTES, _SIZE]
 _library.gs1_gtin.argtypes = [_BYTES, _SIZE, _BYTES, _SIZE]
 _library.gs1_symbol.argtypes = [_U32, _BYTES, _SIZE, _U16, _BYTES, _SIZE]
 _library.gs1_label.argtypes = [_U32, _BYTES, _SIZE, _U16, _U16, _U16, _U16, _BYTES, _SIZE]
-for _name in ("gs1_text", "gs1_find", "gs1_find_dots", "gs1_picture", "gs1_picture_room", "gs1_digit", "gs1_gtin", "gs1_label", "gs1_symbol", "gs1_conflicts"):
+for _name in ("gs1_text", "gs1_find", "gs1_find_dots", "gs1_picture", "gs1_picture_room", "gs1_digit", "gs1_gtin", "gs1_label", "gs1_symbol", "gs1_conflicts",
+              "gs1_read_messages", "gs1_read_gtins", "gs1_scan_text", "gs1_link"):
     getattr(_library, _name).restype = _SIZE
 
 
@@ -345,6 +354,29 @@ class Answer:
     def __contains__(self, ai: object) -> bool:
         return any(element.ai == ai for element in self.elements)
 
+    def scan(self, identifier: str, year: Optional[int] = None) -> str:
+        """The text that a scanner sends of a symbol with these elements. The identifier is ``]C1`` (GS1-128), ``]e0`` (DataBar), ``]d2``
+        (DataMatrix), ``]Q3`` (QR code) or ``]J1`` (DotCode). :func:`read_scan` reads the text as the same elements.
+
+        >>> read_scan("]E09501101530003").scan("]d2")
+        ']d20109501101530003'
+
+        :raises Refusal: 40 ``Kind`` for any other identifier; as :func:`compose` if you made the elements yourself.
+        """
+        return _written(_library.gs1_scan_text, self, identifier, year)
+
+    def link(self, stem: str = "https://id.gs1.org", year: Optional[int] = None) -> str:
+        """The GS1 Digital Link of these elements: in the path the first one that is a key, with its qualifiers, and in the query the
+        others. :func:`read_scan` reads it as the same elements in this order.
+
+        >>> read_scan("]C117261231" "10AB/1\\x1d" "0109501101530003", year=2026).link("https://example.com")
+        'https://example.com/01/09501101530003/10/AB%2F1?17=261231'
+
+        :raises Refusal: 40 ``Kind`` if no element is a key, such as (01), or the stem is no http or https URI or has a ``?`` or a ``#``;
+            11 ``TooLong`` if they are no element string in this order; as :func:`compose` if you made the elements yourself.
+        """
+        return _written(_library.gs1_link, self, stem, year)
+
     def to_json(self) -> str:
         """The answer as a JSON text.
 
@@ -418,13 +450,18 @@ def _said(call: Any, *words: Any) -> Union[Answer, Refusal]:
     """What a call says that fills a struct, or its error. Of the elements it keeps the text and the places."""
     raw = _RawAnswer()
     call(*words, raw)
-    fault, place, symbol, count, length, _, identifier, text = _HEAD.unpack_from(raw)
+    return _said_at(raw, 0)
+
+
+def _said_at(raw: Any, at: int) -> Union[Answer, Refusal]:
+    """What the struct says that begins at an index."""
+    fault, place, symbol, count, length, _, identifier, text = _HEAD.unpack_from(raw, at)
     if fault:
         return Refusal(fault, _remedies()["faults"][str(fault)][0], None if place == _NO_PLACE else place)
     answer = object.__new__(Answer)
     of = answer.__dict__
     of["identifier"], of["symbol"] = identifier[:3].decode("ascii") if identifier[0] else None, _SYMBOLS[symbol]
-    of["_told"] = text[:length].decode("ascii"), raw[_HEAD.size:_HEAD.size + count * _PLACE.size]
+    of["_told"] = text[:length].decode("ascii"), raw[at + _HEAD.size:at + _HEAD.size + count * _PLACE.size]
     return answer
 
 
@@ -436,11 +473,33 @@ def _read(call: Any, *words: Any) -> Answer:
     return said
 
 
-def _gtins(texts: Iterable[bytes]) -> List[Optional[str]]:
-    """The 14 digits of each text that is a GTIN, for many texts; None if it is none, or eight digits that may be a UPC-E, too."""
-    call, out = _library.gs1_gtin, ctypes.create_string_buffer(32)
-    return [out.raw[5:19].decode("ascii") if text.isdigit() and call(text, len(text), out, 32) == 19 and (len(text) != 8 or text[0] != 48) else None
-            for text in texts]
+def _answers(batch: Any, one: Any, texts: List[bytes], terms: int) -> List[Union[Answer, Refusal]]:
+    """What the call of one says of each of at most ``_BATCH`` texts, by the call of many unless a text has an end of a line in it."""
+    lines = b"\n".join(texts) + b"\n"
+    if lines.count(b"\n") > len(texts) or b"\r\n" in lines:
+        return [_said(one, text, len(text), terms) for text in texts]
+    raw = _RawAnswers()
+    batch(lines, len(lines), terms, raw, len(texts), None)
+    return [_said_at(raw, at * ctypes.sizeof(_RawAnswer)) for at in range(len(texts))]
+
+
+def _each(batch: Any, one: Any, texts: Iterable[Union[str, bytes]], terms: int) -> Iterator[Tuple[Union[str, bytes], bytes, Union[Answer, Refusal]]]:
+    """Each of many texts, its bytes, and what the call of one says of it."""
+    every = iter(texts)
+    for some in iter(lambda: list(islice(every, _BATCH)), []):
+        said = list(map(_bytes, some))
+        yield from zip(some, said, _answers(batch, one, said, terms))
+
+
+def _gtins(texts: Sequence[bytes]) -> List[Optional[str]]:
+    """The 14 digits of each text without an end of a line that is a GTIN; None if it is none, or eight digits that may be a UPC-E, too."""
+    raw = _RawAnswers()
+    told: List[Any] = []
+    for at in range(0, len(texts), _BATCH):
+        lines = b"\n".join(texts[at:at + _BATCH]) + b"\n"
+        count = _library.gs1_read_gtins(lines, len(lines), _ANY_YEAR, raw, _BATCH, None)
+        told += islice(_GTIN.iter_unpack(raw), count)
+    return [None if fault or len(text) == 8 and text[0] == 48 else digits.decode("ascii") for (fault, digits), text in zip(told, texts)]
 
 
 def _said_in(line: bytes, terms: int) -> Union[Answer, Refusal]:
@@ -481,6 +540,12 @@ def _with_before(refusal: Refusal, text: bytes, terms: int) -> Refusal:
         if place > 0:
             refusal.before = _parse(text[:place], terms).elements
     return refusal
+
+
+def _with_scanned(refusal: Refusal, said: bytes, terms: int) -> Refusal:
+    """The error of what a scanner sends; of an element string behind an identifier as :func:`_with_before`."""
+    # Places do not count a separator at the beginning.
+    return _with_before(refusal, re.sub(b"^\x1d", b"", said[3:].replace(b"^", b"\x1d")), terms) if said[:3] in _ELEMENT_STRINGS else refusal
 
 
 def _line(answer: bytes) -> str:
@@ -683,15 +748,32 @@ def read_scan(text: Union[str, bytes], year: Optional[int] = None, *, ais: Ais =
         the year is out of range.
     """
     said = _bytes(text)
-    terms = _terms(year, ais)
     try:
-        return _read(_library.gs1_read_message, said, len(said), terms)
+        return _read(_library.gs1_read_message, said, len(said), _terms(year, ais))
     except Refusal as refusal:
-        _noted(refusal, "read_scan", text, year, ais)
-        if said[:3] not in _ELEMENT_STRINGS:
-            raise
-        # Places do not count a separator at the beginning.
-        raise _with_before(refusal, re.sub(b"^\x1d", b"", said[3:].replace(b"^", b"\x1d")), terms)
+        raise _with_scanned(_noted(refusal, "read_scan", text, year, ais), said, _terms(year, ais))
+
+
+def read_scans(texts: Iterable[Union[str, bytes]], year: Optional[int] = None, *, ais: Ais = "all") -> Iterator[Union[Answer, Refusal]]:
+    """What each of many texts from scanners says, one after another: the answer of :func:`read_scan`, or the error that it
+    raises.
+
+        >>> [str(it) for it in read_scans(["]C110AB", "9501101530004"], year=2026)]
+        [']C1 (10)AB', 'refused 3 CheckDigit']
+    """
+    terms = _terms(year, ais)
+    each = _each(_library.gs1_read_messages, _library.gs1_read_message, texts, terms)
+    return (_with_scanned(_noted(it, "read_scan", text, year, ais), said, terms) if isinstance(it, Refusal) else it for text, said, it in each)
+
+
+def read_gtins(texts: Iterable[Union[str, bytes]]) -> Iterator[Union[str, Refusal]]:
+    """The 14 digits of each of many GTINs, one after another, or the error that :func:`read_gtin` raises.
+
+        >>> [str(it) for it in read_gtins(["9501101530003", "9501101530004"])]
+        ['09501101530003', 'refused 3 CheckDigit']
+    """
+    each = _each(_library.gs1_read_gtins, _library.gs1_read_gtin, texts, _ANY_YEAR)
+    return (_noted(it, "read_gtin", text) if isinstance(it, Refusal) else it.__dict__["_told"][0][len("01"):] for text, _, it in each)
 
 
 def read_text(text: str, year: Optional[int] = None, *, ais: Ais = "all") -> Answer:
@@ -701,15 +783,16 @@ def read_text(text: str, year: Optional[int] = None, *, ais: Ais = "all") -> Ans
     - an element string with each Application Identifier in parentheses or brackets, or with ``^`` or ``"\\x1d"`` as the separator
     - what a scanner sends behind an identifier, and a GS1 Digital Link, as :func:`read_scan` reads them
 
-    Blanks at the ends, and in element strings with parentheses or brackets, do not count.
+    Blanks at the ends, around printed values and in those of digits alone do not count. A printed value ends before the next Application
+    Identifier: if a value has one in parentheses, write brackets around each, as in ``[10]A(17)``.
 
         >>> read_text("(01)09501101530003 (17)261231", year=2026)["17"].date
         datetime.date(2026, 12, 31)
         >>> read_text("978-3-16-148410-0").gtin
         '09783161484100'
 
-    :raises Refusal: as :func:`read_scan`; for a number as :func:`read_gtin`, and 40 ``Kind`` for zeros alone; 5 ``UnknownAi`` if
-        there are parentheses elsewhere than around Application Identifiers.
+    :raises Refusal: as :func:`read_scan`; for a number as :func:`read_gtin`, and 40 ``Kind`` for zeros alone. The place of a printed
+        element is its offset in the text of all of them with a separator between each two.
     """
     from . import _texts  # It needs this module.
 
@@ -787,37 +870,29 @@ def compose(elements: Iterable[Union[Element, Tuple[str, str]]], year: Optional[
     :raises Refusal: they are no elements, 4 to 11, with the index of the element as the place; 42 ``Words`` if the year
         is out of range.
     """
-    pairs = [(it.ai, it.value) if isinstance(it, Element) else (it[0], it[1]) for it in elements]
-    text = ""
-    for at, (ai, value) in enumerate(pairs):
+    listed = [it if isinstance(it, Element) else Element(*it) for it in elements]
+    try:
+        return _written(_library.gs1_scan_text, Answer(None, tuple(listed)), "]C1", year)[len("]C1"):]
+    except Refusal as refusal:
+        told = _too_long(listed, year) if refusal.name == "TooLong" else refusal
+        wrong = None if told.place is None else listed[told.place]
+        raise _noted(told, "compose", wrong.value, year, "all", wrong.ai) if wrong else _noted(told, "compose")
+
+
+def _too_long(elements: List[Element], year: Optional[int]) -> Refusal:
+    """The error of elements with too many characters: that of the first one that has an error, whose value may be long itself."""
+    for at, it in enumerate(elements):
         try:
-            _check_pair(ai, value, year, at)
+            compose([(it.ai[:5], it.value[:100])], year)
         except Refusal as refusal:
-            raise _noted(refusal, "compose", value, year, "all", ai)
-        text += ("\x1d" if at > 0 and _values.needs_separator(pairs[at - 1][0]) else "") + ai + value
-    try:
-        parse_elements(text, year)
-    except Refusal as refusal:
-        raise _noted(refusal, "compose")
-    return text
+            return Refusal(refusal.number, refusal.name, at)
+    return Refusal(11, "TooLong")
 
 
-def _check_pair(ai: str, value: str, year: Optional[int], at: int) -> None:
-    """Raises the error of a pair that is no element; ``index`` is its place."""
-    more = Refusal(7, "ValueCharacter", at) if "\x1d" in value else Refusal(6, "ValueLength", at)
-    try:
-        read = parse_elements(ai + value, year)
-    except Refusal as refusal:
-        # A value with anything after it is too long, and so is one that needs a separator in a text.
-        if refusal.place or refusal.name in ("MissingSeparator", "TooLong"):
-            raise more from None
-        if refusal.name == "Words":
-            raise
-        raise (Refusal(5, "UnknownAi", at) if refusal.name == "Empty" else Refusal(refusal.number, refusal.name, at)) from None
-    if read[0].ai != ai:
-        raise Refusal(5, "UnknownAi", at)
-    if (read[0].value, len(read)) != (value, 1):
-        raise more
+def _written(call: Any, answer: Answer, word: str, year: Optional[int]) -> str:
+    """What a call writes of an answer's elements."""
+    said = word.encode()
+    return _line(_ask(call, _raw_of(answer), said, len(said), _terms(year, "all")))
 
 
 class Conflict(NamedTuple):
@@ -853,16 +928,22 @@ def conflicts(elements: Iterable[Element]) -> List[Conflict]:
         element has, with the index of the element.
     """
     listed = elements if isinstance(elements, Answer) else Answer(None, tuple(elements))
-    text, places = listed.__dict__.get("_told") or _told_of(listed.elements)
-    raw, found = _RawAnswer(), _RawConflicts()
-    _HEAD.pack_into(raw, 0, 0, _NO_PLACE, 0, len(places) // _PLACE.size, len(text), 255, b"", text.encode("ascii"))
-    ctypes.memmove(ctypes.byref(raw, _HEAD.size), places, len(places))
-    count = _library.gs1_conflicts(raw, found, _MOST_CONFLICTS)
+    found = _RawConflicts()
+    count = _library.gs1_conflicts(_raw_of(listed), found, _MOST_CONFLICTS)
     return [_conflict(listed.elements, *_CONFLICT.unpack_from(found, _CONFLICT.size * at)) for at in range(count)]
 
 
 def _conflict(elements: Tuple[Element, ...], kind: int, element: int, other: int, text: bytes) -> Conflict:
     return Conflict(get_args(ConflictKind)[kind - 1], elements[element], elements[other] if other < 255 else None, text.rstrip(b"\0").decode("ascii"))
+
+
+def _raw_of(answer: Answer) -> Any:
+    """An answer as ``struct gs1_answer``."""
+    text, places = answer.__dict__.get("_told") or _told_of(answer.elements)
+    raw = _RawAnswer()
+    _HEAD.pack_into(raw, 0, 0, _NO_PLACE, 0, len(places) // _PLACE.size, len(text), 255, b"", text.encode("ascii"))
+    ctypes.memmove(ctypes.byref(raw, _HEAD.size), places, len(places))
+    return raw
 
 
 def _told_of(elements: Sequence[Element]) -> Tuple[str, bytes]:

@@ -7,8 +7,8 @@ from typing import Callable, Dict, Iterator, NamedTuple, Optional
 
 from . import _ANY_YEAR, Ais, Kind, Refusal, _remedies, check_digit, label_symbol, parse_elements, read_gtin, read_scan
 from ._mending import Advice, Written, advice, is_number, meant
-from ._texts import BRACKETED, LINK, ROUNDED, digits_of, element_string, is_elements, pairs_of, read_text, stripped
-from ._values import ai_at, rows
+from ._texts import BRACKETED, LINK, ROUNDED, digits_of, is_elements, pairs_of, read_text, stripped
+from ._values import ai_at
 
 Reads = Callable[[str], bool]
 """Whether the call reads a text."""
@@ -126,9 +126,8 @@ def _of_printed(refusal: Refusal, asked: Asked) -> Advice:
         pairs = pairs_of(text)
     except Refusal:
         number = meant(text)
-        ways = [_written(asked)(number) if number else "", _in_brackets(text)]
-        fixes = [it for it in ways if it and asked.reads(it)][:1]
-        return Advice("parentheses" if text[0] == "(" else "brackets", (), tuple(fixes))
+        right = _written(asked)(number) if number else ""
+        return Advice("parentheses" if text[0] == "(" else "brackets", (), (right,) if right else ())
     close, at = ")" if text[0] == "(" else "]", 0
     shown = [f"{text[0]}{ai}{close}{value}" for ai, value in pairs]
     for index, (ai, value) in enumerate(pairs):
@@ -140,11 +139,6 @@ def _of_printed(refusal: Refusal, asked: Asked) -> Advice:
             return Advice("at", (shown[index], Advice("padded", (told,)) if right else _alone(refusal.number, ai)), tuple(fixes))
         at += len(ai) + len(value) + 1
     return _usual(refusal.number, text, None, "^")
-
-
-def _in_brackets(text: str) -> str:
-    """An element string as it is printed, with brackets around each Application Identifier in parentheses."""
-    return re.sub(r"\(([0-9]{2,4})\)", lambda it: f"[{it[1]}]" if it[1] in rows() else it[0], text)
 
 
 def _padded(ai: str, value: str) -> str:
@@ -292,10 +286,9 @@ def _ways(asked: Asked) -> Iterator[str]:
         return
     if is_elements(behind):
         try:
-            string = element_string(_in_brackets(behind) if behind[0] == "(" else behind)
+            string = "\x1d".join(f"{it.ai}{it.value}" for it in read_text(behind, asked.year, asked.ais))
         except Refusal:
             return
-        string = string.strip("\x1d")
         yield f"^{string}".replace("\x1d", "^") if front else string
     elif front and meant(text):
         yield meant(text)

@@ -132,6 +132,8 @@ Spalten der Preis sein, so fragt er, und --column price=ÜBERSCHRIFT antwortet. 
     "File of the corrected list, or - for standard output": "Die Datei der berichtigten Liste, oder - für die Standardausgabe",
     "Print only the lines that are refused": "Nur die abgelehnten Zeilen zeigen",
     "Refuse what is a warning otherwise": "Ablehnen, was sonst eine Warnung ist",
+    "Print the GS1 Digital Link of each text too, with this beginning": "Auch den GS1 Digital Link jedes Textes zeigen, mit diesem Anfang",
+    "--link takes the beginning of a web address, as https://id.gs1.org": "--link braucht den Anfang einer Webadresse, etwa https://id.gs1.org",
     "Print a JSON object for each line": "Je Zeile ein JSON-Objekt schreiben",
     "--fix and -o FILE go together: write both, as in --fix -o fixed.csv":
         "--fix und -o FILE gehören zusammen: bitte beides schreiben, etwa --fix -o neu.csv",
@@ -148,6 +150,7 @@ currency. --strict refuses such a line.
 
   $ noriladle check supplier.csv
   $ noriladle check supplier.csv --fix -o fixed.csv
+  $ noriladle check supplier.csv --link https://id.gs1.org
 """: """
 LIST ist eine CSV-Datei oder eine Tabelle, mit Überschriften oder ohne, oder hat einen Text je Zeile. Ein Text ist eine
 GTIN, GS1-Elemente, wie sie gedruckt sind, (01)09501101530003(17)261231, oder mit ^ als Trennzeichen, ^10AB^17261231,
@@ -162,6 +165,7 @@ Währung haben. Mit --strict ist eine solche Zeile abgelehnt.
 
   $ noriladle check lieferant.csv
   $ noriladle check lieferant.csv --fix -o neu.csv
+  $ noriladle check lieferant.csv --link https://id.gs1.org
 """,
     # read
     "Read the barcodes of photographs, scans and PDF files": "Liest die Strichcodes von Fotos, Scans und PDF-Dateien",

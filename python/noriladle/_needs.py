@@ -24,6 +24,7 @@ REPORTLAB = Need("reportlab", "python3-reportlab", "reportlab", "reportlab")
 NUMPY = Need("numpy", "python3-numpy", "numpy", "numpy")
 PILLOW = Need("Pillow", "python3-pil", "PIL", "Pillow")
 PDFTOPPM = Need("pdftoppm", "poppler-utils")
+HIREDIS = Need("hiredis", "python3-hiredis", "hiredis", "hiredis")
 FONT = Need("a font", "fonts-liberation")
 
 

@@ -4,10 +4,9 @@ from __future__ import annotations
 import re
 from typing import List, Optional, Tuple
 
-from . import Ais, Answer, Refusal, _bytes, _is_gtin, _library, _noted, _read, _terms, read_scan
+from . import Ais, Answer, Refusal, _bytes, _is_gtin, _library, _noted, _read, _terms, _with_scanned
 
-BRACKETED = {"(": re.compile(r"\((\d{2,4})\)([^()]+)"), "[": re.compile(r"\[(\d{2,4})\]([^][]+)")}
-_BLANKS = re.compile(r"[\s\xa0\u2007\u202f]+")
+BRACKETED = {"(": re.compile(r"\(([0-9]{2,4})\)([^()]+)"), "[": re.compile(r"\[([0-9]{2,4})\]([^][]+)")}
 _PUNCTUATION = re.compile(r"[\s\xa0\u2007\u202f\u2010-\u2015-]+")
 LINK = re.compile(r"https?://", re.IGNORECASE)
 _MAY_BE = re.compile(r"\d|://")
@@ -19,42 +18,12 @@ _WHITE = "".join(sign for sign in map(chr, range(0x3001)) if sign.isspace() and 
 
 
 def read_text(text: str, year: Optional[int], ais: Ais = "all") -> Answer:
-    """What a text says: an element string with ``(01)`` or ``[01]`` around each Application Identifier, or with ``^`` or
-    byte 29 in it; what a scanner sends, which begins with ``]``; a GS1 Digital Link; or else a number.
-
-    :raises Refusal: as :func:`noriladle.read_scan`; for a number as :func:`noriladle.read_gtin`, and 40 ``Kind`` for zeros
-        alone; 5 ``UnknownAi`` if there are parentheses elsewhere than around Application Identifiers.
-    """
-    text = stripped(text)
-    if text[:1] in BRACKETED:
-        return _read_printed(pairs_of(text), year, ais)
-    if text[:1] == "]" or LINK.match(text):
-        return read_scan(text, year, ais=ais)
-    if is_elements(text):
-        return read_scan(text if text[0] in "^\x1d" else f"^{text}", year, ais=ais)
-    digits = digits_of(text)
-    if digits and not digits.strip("0"):
-        raise Refusal(40, "Kind")
-    # Eight digits that begin with 0 are a GTIN-8 or a UPC-E: the library refuses to guess.
-    if len(digits) == 8 and digits[0] == "0" and digits.isascii() and digits.isdecimal():
-        return read_scan(digits, year, ais=ais)
-    number = _bytes(digits)
-    return _read(_library.gs1_read_gtin, number, len(number), _terms(year, ais))
-
-
-def _read_printed(pairs: List[Tuple[str, str]], year: Optional[int], ais: Ais) -> Answer:
-    """What Application Identifiers with their values say: these elements, and no others that the same characters may be."""
-    starts = [sum(len(ai) + len(value) + 1 for ai, value in pairs[:at]) for at in range(len(pairs))]
+    """What a text says, as :func:`noriladle.read_text`."""
+    typed, terms = _bytes(text), _terms(year, ais)
     try:
-        answer = read_scan("^" + "\x1d".join(f"{ai}{value}" for ai, value in pairs), year, ais=ais)
+        return _read(_library.gs1_read_text, typed, len(typed), terms)
     except Refusal as refusal:
-        if refusal.place is None or refusal.place in starts:
-            raise
-        raise Refusal(6, "ValueLength", max(it for it in starts if it < refusal.place)) from None
-    for at, (ai, value), element in zip(starts, pairs, answer):
-        if (element.ai, element.value) != (ai, value):
-            raise Refusal(5, "UnknownAi", at) if element.ai != ai else Refusal(6, "ValueLength", at)
-    return answer
+        raise _with_scanned(refusal, _bytes(stripped(text)), terms)
 
 
 def stripped(text: str) -> str:
@@ -89,16 +58,10 @@ def digits_of(text: str) -> str:
     return _PUNCTUATION.sub("", text)
 
 
-def element_string(text: str) -> str:
-    """The element string of a text that has parentheses or brackets around each Application Identifier, or else ``^`` or
-    byte 29 as the separator.
-
-    :raises Refusal: 5 ``UnknownAi`` if there are parentheses elsewhere.
-    """
-    if text[:1] not in BRACKETED:
-        return text.replace("^", "\x1d")
-    # The symbol has no separator that it does not need.
-    return "\x1d".join(f"{ai}{value}" for ai, value in pairs_of(text))
+def element_string(answer: Answer) -> str:
+    """The element string of an answer, with a separator only where one must stand."""
+    told: str = answer.__dict__["_told"][0]
+    return told
 
 
 def in_column(text: str) -> str:
@@ -114,8 +77,18 @@ def in_column(text: str) -> str:
 
 
 def pairs_of(text: str) -> List[Tuple[str, str]]:
-    """The Application Identifiers of a text, each with its value; no value has a blank."""
-    plain, pattern = _BLANKS.sub("", text), BRACKETED[text[0]]
-    if pattern.sub("", plain):
+    """The Application Identifiers of a printed text that is refused, each with its value.
+
+    :raises Refusal: 5 ``UnknownAi`` if there are parentheses or brackets elsewhere.
+    """
+    pattern = BRACKETED[text[0]]
+    pairs = [(ai, _printed(value)) for ai, value in pattern.findall(text)]
+    if pattern.sub("", text) or not all(value for _, value in pairs):
         raise Refusal(5, "UnknownAi")
-    return pattern.findall(plain)
+    return pairs
+
+
+def _printed(value: str) -> str:
+    """A printed value without the blanks around it, and one of digits alone without those in it."""
+    plain = "".join(value.split())
+    return plain if re.fullmatch("[0-9]*", plain) else value.strip()

@@ -11,7 +11,6 @@ from ._ais import COUNTRIES, CURRENCIES, ROWS
 class Row(NamedTuple):
     """What the table says about an Application Identifier."""
 
-    predefined: bool
     title: str
 
 
@@ -26,12 +25,12 @@ class Place(NamedTuple):
 def rows() -> Dict[str, Row]:
     """The table, by its Application Identifiers."""
     table = {}
-    for least, greatest, predefined, title in ROWS:
+    for least, greatest, title in ROWS:
         for ai in range(int(least), int(greatest) + 1):
             name = f"{ai:0{len(least)}d}"
             # Of AIs from one to another each digit lies between those of the two.
             if all(low <= digit <= high for low, digit, high in zip(least, name, greatest)):
-                table[name] = Row(predefined, title)
+                table[name] = Row(title)
     return table
 
 
@@ -111,9 +110,3 @@ def place(ai: str, value: str) -> Optional[Place]:
         return None
     east = _scaled(value[10:], 7)
     return Place(_scaled(value[:10], 7) - 90, east - 360 if east > 180 else east)
-
-
-def needs_separator(ai: str) -> bool:
-    """Whether a separator follows this element if another comes after it."""
-    row = rows().get(ai)
-    return row is None or not row.predefined

@@ -3,6 +3,8 @@
 No remedy may speak of another command, each text that one names in place of the text must be read by the call that was asked, and Python and the
 npm package, and the page and the commands, must say the same. Its last line is the counts.
 """
+from __future__ import annotations
+
 import csv
 import io
 import json
@@ -16,12 +18,14 @@ import subprocess
 import sys
 import tempfile
 import tty
+from typing import Any, Callable
 
 HERE = pathlib.Path(__file__).resolve().parent
 ROOT = HERE.parents[1]
 sys.path[:0] = [str(ROOT / "python"), str(HERE)]
 sys.dont_write_bytecode = True
 import noriladle  # noqa: E402
+from noriladle import Refusal
 import random_scans  # noqa: E402
 from noriladle import _shop  # noqa: E402
 from noriladle._advice import remedy_of  # noqa: E402
@@ -45,15 +49,17 @@ MOST_SHOWN = 10
 class Count:
     """What is wrong, and how many remedies were seen of each caller."""
 
-    def __init__(self):
-        self.wrong, self.seen, self.fixes = {}, {}, 0
+    def __init__(self) -> None:
+        self.fixes = 0
+        self.wrong: dict[str, int] = {}
+        self.seen: dict[str, int] = {}
 
-    def note(self, what, shown):
+    def note(self, what: str, shown: object) -> None:
         self.wrong[what] = self.wrong.get(what, 0) + 1
         if self.wrong[what] <= MOST_SHOWN:
             print(f"{what}: {shown}", file=sys.stderr)
 
-    def look(self, caller, words, asked, remedy):
+    def look(self, caller: str, words: re.Pattern[str], asked: object, remedy: str) -> None:
         """Looks for words of another command that do not stand in what was asked."""
         self.seen[caller] = self.seen.get(caller, 0) + 1
         found = [it[0] for it in words.finditer(remedy) if it[0] not in str(asked)]
@@ -61,7 +67,7 @@ class Count:
             self.note(f"{caller} speaks of another command", f"{asked!r}: {remedy!r}: {found}")
 
 
-def refusal_of(call, *words):
+def refusal_of(call: Callable[..., object], *words: Any) -> Refusal | None:
     try:
         call(*words)
     except noriladle.Refusal as refusal:
@@ -69,15 +75,15 @@ def refusal_of(call, *words):
     return None
 
 
-CALLS = {
+CALLS: dict[str, Callable[..., object]] = {
     "scan": lambda text: noriladle.read_scan(text, YEAR), "elements": lambda text: noriladle.parse_elements(text, YEAR),
     "gtin": noriladle.read_gtin, "digit": noriladle.check_digit, "label": lambda kind, text: noriladle.label_symbol(kind, text, YEAR),
     "compose": lambda ai, value: noriladle.compose([(ai, value)], YEAR), "row": lambda widths: noriladle.read_row(widths, YEAR)}
 
 
-def questions(chance, texts):
+def questions(chance: random.Random, texts: list[str]) -> list[tuple[Any, ...]]:
     """Calls of the libraries: each text as a scan, and some as what other calls take."""
-    asked = [("scan", text) for text in texts]
+    asked: list[tuple[Any, ...]] = [("scan", text) for text in texts]
     for text in chance.sample(texts, len(texts) // 5):
         behind = re.sub(r"^(\][A-Za-z][0-9]|\^|\x1d)", "", text)
         asked.append((chance.choice(["elements", "gtin", "digit"]), chance.choice([text, behind])))
@@ -91,7 +97,7 @@ def questions(chance, texts):
     return asked
 
 
-def of_libraries(count, asked):
+def of_libraries(count: Count, asked: list[tuple[Any, ...]]) -> None:
     """What Python and the npm package say."""
     lines = "".join(f"{json.dumps(it)}\n" for it in asked)
     npm = subprocess.run(["node", HERE / "npm_advice.mjs", PACKAGE], input=lines, stdout=subprocess.PIPE, check=True, text=True).stdout.split("\n")
@@ -112,7 +118,7 @@ def of_libraries(count, asked):
                 count.note(f"{call} does not read what it names", f"{question}: {fix!r}")
 
 
-def of_lists(count, texts):
+def of_lists(count: Count, texts: list[str]) -> list[str]:
     """What the page, `noriladle check` and `noriladle labels` say of texts as people type them."""
     page = subprocess.run(["node", HERE / "page_advice.js"], input="".join(f"{json.dumps(it)}\n" for it in texts), stdout=subprocess.PIPE, check=True, text=True)
     refused = []
@@ -131,14 +137,14 @@ def of_lists(count, texts):
     return refused
 
 
-def listed(texts):
+def listed(texts: list[str]) -> bytes:
     """A list of these texts, with a heading."""
     out = io.StringIO()
     csv.writer(out, delimiter=";", quoting=csv.QUOTE_ALL).writerows([["gtin", "name"], *([text, "Oats"] for text in texts)])
     return out.getvalue().encode()
 
 
-def of_commands(count, refused):
+def of_commands(count: Count, refused: list[str]) -> None:
     """What `noriladle check` and `noriladle labels` print of texts that are refused."""
     refused = [text for text in refused if text.strip() and not re.search("[\r\n\0]", text)]
     env = {**os.environ, "PYTHONPATH": str(ROOT / "python"), "LC_ALL": "C.UTF-8"}
@@ -165,7 +171,7 @@ def of_commands(count, refused):
         count.note("labels has left out texts", told.stderr.decode()[-300:])
 
 
-def of_scanner(count, texts):
+def of_scanner(count: Count, texts: list[str]) -> None:
     """What `noriladle scanner` prints of texts on a serial line."""
     ours, theirs = pty.openpty()
     tty.setraw(theirs)
@@ -188,7 +194,7 @@ def of_scanner(count, texts):
     os.close(theirs)
 
 
-def of_pictures(count, chance):
+def of_pictures(count: Count, chance: random.Random) -> None:
     """What `noriladle read` says of damaged labels."""
     import numpy
     from PIL import Image
@@ -205,7 +211,7 @@ def of_pictures(count, chance):
         count.look("read", OF_A_PICTURE, "", line.partition(": ")[2])
 
 
-def main():
+def main() -> bool:
     count, chance, made = Count(), random.Random(SEED), random_scans.Texts(SEED)
     scans, printed = [made.scan() for _ in range(SCANS)], [made.printed() for _ in range(PRINTED)]
     of_libraries(count, questions(chance, [*scans, *printed]))

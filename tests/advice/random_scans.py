@@ -17,18 +17,18 @@ OTHERS = ["]E1", "]E2", "]E3", "]I0", "]C0", "]e1", "]e2", "]e3", "]A0", "]d0", 
 class Texts:
     """Makes texts from a seed."""
 
-    def __init__(self, seed):
+    def __init__(self, seed: int) -> None:
         self._chance = random.Random(seed)
         self._ais = list(_values.rows())
 
-    def _some(self, letters, count):
+    def _some(self, letters: str, count: int) -> str:
         return "".join(self._chance.choice(letters) for _ in range(count))
 
-    def gtin(self, count=14):
+    def gtin(self, count: int = 14) -> str:
         body = self._some(DIGITS, count - 1)
         return f"{body}{noriladle.check_digit(body)}"
 
-    def _value(self, ai):
+    def _value(self, ai: str) -> str:
         chance = self._chance
         if ai in ("01", "02", "03"):
             return self.gtin(chance.choice([14, 14, 14, 13, 12]))
@@ -43,21 +43,21 @@ class Texts:
             return self._some(DIGITS, chance.choice([1, 2, 3, 6, 6, 8, 9, 10, 12, 13, 17, 20]))
         return self._some(CHARACTERS, chance.randrange(1, 24))
 
-    def _elements(self):
+    def _elements(self) -> str:
         chance, text = self._chance, self._chance.choice(ELEMENT_STRINGS)
         for _ in range(chance.choice([1, 1, 2, 3, 4])):
             ai = chance.choice(self._ais)
             text += ai + self._value(ai) + chance.choice(["\x1d", "^", "\x1d", ""])
         return text[:chance.randrange(len(text) + 1)] if chance.random() < 0.1 else text
 
-    def _link(self):
+    def _link(self) -> str:
         chance = self._chance
         path = chance.choice(["", "/10/A%2FB", "/22/x/10/y/21/z", "/21/z/10/y", "/98765/x"])
         query = chance.choice(["", "?17=261231", "?17=261331", "?3103=001250&x=y", "?10=A+B", "?99=%C3%BC"])
         front = chance.choice(["", "", "]Q1", "]d1", "]Q3"])
         return f"{front}https://{chance.choice(['id.gs1.org', 'a.b/x', 'x'])}/{chance.choice(['01', '01', '02', 'x'])}/{self.gtin()}{path}{query}"
 
-    def _number(self):
+    def _number(self) -> str:
         chance = self._chance
         digits = self.gtin(chance.choice([8, 12, 13, 14]))
         if chance.random() < 0.3:
@@ -65,7 +65,7 @@ class Texts:
             digits = digits[:at] + chance.choice(["", "0", "7", "O", " ", "-"]) + digits[at + 1:]
         return chance.choice(["", "]E0", "]E4", "]I1"]) + digits.lstrip(chance.choice(["", "", "0"]))
 
-    def scan(self):
+    def scan(self) -> str:
         """What a scanner may send, right or wrong."""
         chance = self._chance
         kind = chance.random()
@@ -79,7 +79,7 @@ class Texts:
             return chance.choice(OTHERS) + self.gtin(chance.choice([8, 13, 14]))
         return self._some("]C1E0dQ^\x1d0123456789AB() \té", chance.randrange(20))
 
-    def printed(self):
+    def printed(self) -> str:
         """The elements of a scan that is read, as they are printed; every other one with a wrong character."""
         chance = self._chance
         while True:

@@ -6,11 +6,14 @@
 prints COUNT element strings of one to five elements, a line each, with `^` as the separator. About one in four is faulty.
 """
 
+from __future__ import annotations
+
 import importlib.machinery
 import importlib.util
 import os
 import random
 import sys
+from typing import Iterator
 
 ROOT = os.path.dirname(os.path.dirname(os.path.dirname(os.path.abspath(__file__))))
 sys.dont_write_bytecode = True
@@ -35,18 +38,18 @@ KNOWN = {
 }
 
 
-def check_digit(digits):
+def check_digit(digits: str) -> str:
     """The digits, the last replaced by their check digit."""
     return digits[:-1] + str(-sum(int(it) * (1 if at % 2 else 3) for at, it in enumerate(reversed(digits[:-1]))) % 10)
 
 
-def checked(text):
+def checked(text: str) -> str:
     """A text with its two check characters behind it."""
     value = sum(X.index(it) * prime for it, prime in zip(reversed(text), PRIMES)) % 1021
     return text + LETTERS[value >> 5] + LETTERS[value & 31]
 
 
-def part(letter, least, greatest, rules):
+def part(letter: str, least: int, greatest: int, rules: list[str]) -> str:
     """A value of a part, mostly a good one."""
     for rule in rules:
         if rule in KNOWN:
@@ -64,14 +67,14 @@ def part(letter, least, greatest, rules):
     return check_digit(text) if "csum" in rules else text
 
 
-def good(form):
+def good(form: str) -> str:
     """A value of a format."""
     parts = list(make.tokens(form))
     last = random.randint(sum(not it[0] for it in parts), len(parts))
     return "".join(part(*it[1:]) for it in parts[:last])
 
 
-def changed(value):
+def changed(value: str) -> str:
     """A value with one change."""
     at = random.randrange(len(value))
     return random.choice([
@@ -81,7 +84,7 @@ def changed(value):
     ])
 
 
-def values():
+def values() -> Iterator[tuple[str, str]]:
     """AIs with values."""
     for row in make.read(os.path.join(ROOT, "tables", "ais.tsv")):
         for ai in row.ais():
@@ -91,7 +94,7 @@ def values():
                 yield from ((ai, it) for it in (changed(value) for _ in range(CHANGED)) if 0 < len(it) <= 90)
 
 
-def strings(count):
+def strings(count: int) -> Iterator[str]:
     """Element strings with `^` for each separator."""
     rows = make.read(os.path.join(ROOT, "tables", "ais.tsv"))
     ais = [(ai, row) for row in rows for ai in row.ais()]
@@ -106,7 +109,7 @@ def strings(count):
         yield text.rstrip("^") if random.random() < 0.8 else text
 
 
-def main():
+def main() -> None:
     count, seed = map(int, sys.argv[1:])
     random.seed(seed)
     for text in strings(count):

@@ -3,6 +3,8 @@
 Usage: compare_answers.py LINES PACKAGE PROGRAM WORK COUNT. LINES is the program of c_answers.c, PACKAGE the npm package and PROGRAM gs1_hub. Its last line is the
 counts.
 """
+from __future__ import annotations
+
 import importlib.machinery
 import importlib.util
 import json
@@ -10,6 +12,7 @@ import os
 import random
 import subprocess
 import sys
+from typing import Any, Callable, Iterable, Iterator, Sequence
 
 HERE = os.path.dirname(os.path.abspath(__file__))
 ROOT = os.path.dirname(os.path.dirname(HERE))
@@ -35,7 +38,7 @@ KNOWN = {
 }
 
 
-def table():
+def table() -> tuple[list[Any], Callable[[str], Iterator[tuple[bool, str, int, int, list[str]]]]]:
     """The rows of tables/ais.tsv, and what takes a format apart."""
     loader = importlib.machinery.SourceFileLoader("ais", os.path.join(ROOT, "tables", "ais"))
     ais = importlib.util.module_from_spec(importlib.util.spec_from_loader("ais", loader))
@@ -47,17 +50,17 @@ def table():
 ROWS, TOKENS = table()
 
 
-def checked(digits):
+def checked(digits: str) -> str:
     """The digits, the last replaced by their check digit."""
     total = sum(int(it) * (3, 1)[at % 2] for at, it in enumerate(reversed(digits[:-1])))
     return digits[:-1] + str(-total % 10)
 
 
-def some(chance, letters, count):
+def some(chance: random.Random, letters: str, count: int) -> str:
     return "".join(chance.choice(letters) for _ in range(count))
 
 
-def part(chance, letter, least, greatest, rules):
+def part(chance: random.Random, letter: str, least: int, greatest: int, rules: list[str]) -> str:
     for rule in rules:
         if rule in KNOWN:
             return chance.choice(KNOWN[rule])
@@ -65,25 +68,25 @@ def part(chance, letter, least, greatest, rules):
     return checked(text) if "csum" in rules else text
 
 
-def element(chance):
-    """An element of any AI, mostly a good one, and whether it is of a predefined length."""
+def element(chance: random.Random) -> tuple[str, str, bool]:
+    """The AI and the value of an element of any AI, mostly a good one, and whether it is of a predefined length."""
     row = chance.choice(ROWS)
     value = "".join(part(chance, *it[1:]) for it in TOKENS(row.format) if not it[0] or chance.random() < 0.5)
     if chance.random() < 0.1:
         at = chance.randrange(len(value) + 1)
         value = value[:at] + chance.choice(["", "0", "A", "*", "~"]) + value[at + chance.randrange(2):]
-    return chance.choice(row.ais()) + value, row.predefined
+    return chance.choice(row.ais()), value, row.predefined
 
 
-def element_string(chance, most):
+def element_string(chance: random.Random, most: int) -> str:
     text = ""
     for _ in range(chance.randint(1, most)):
-        one, predefined = element(chance)
-        text += one + ("" if predefined == (chance.random() < 0.97) else SEPARATOR)
+        ai, value, predefined = element(chance)
+        text += ai + value + ("" if predefined == (chance.random() < 0.97) else SEPARATOR)
     return text.rstrip(SEPARATOR) if chance.random() < 0.9 else text
 
 
-def label(chance):
+def label(chance: random.Random) -> str:
     """A line that asks for the symbol of a label, and mostly gets it."""
     kind = chance.choice(KINDS)
     if kind == "gs1128":
@@ -98,7 +101,7 @@ def label(chance):
     return f"{KINDS.index(chance.choice(KINDS) if chance.random() < 0.05 else kind)} {digits}"
 
 
-def scan(chance):
+def scan(chance: random.Random) -> str:
     """A text as a scanner sends it, mostly a good one, with a GTIN at any place or none."""
     gtin = checked(some(chance, "0123456789", 14))
     if chance.random() < 0.2:
@@ -112,21 +115,31 @@ def scan(chance):
     return chance.choice(["]C1", "]e0", "]d2", "]Q3", "]J1", "^"]) + "^".join(parts)
 
 
-def made():
+def printed(chance: random.Random) -> str:
+    """A text as people print or type it: elements with blanks around them, or a number with hyphens."""
+    if chance.random() < 0.2:
+        digits = checked(some(chance, "0123456789", 13))
+        return chance.choice("- ").join((digits[:3], digits[3:4], digits[4:12], digits[12:]))
+    before, behind = chance.choice([("(", ")"), ("(", ")"), ("[", "]")])
+    parts = [element(chance) for _ in range(chance.randint(1, 3))]
+    return "".join(f"{before}{ai}{behind}{chance.choice(['', '', ' '])}{value}{chance.choice(['', '', ' '])}" for ai, value, _ in parts)
+
+
+def made() -> tuple[list[str], list[str], list[str]]:
     chance = random.Random(17)
     return ([label(chance) for _ in range(COUNT)], ["- " + element_string(chance, 4) for _ in range(COUNT)],
-            ["= " + scan(chance) for _ in range(COUNT)])
+            ["~ " + printed(chance) if at % 3 == 0 else "= " + scan(chance) for at in range(COUNT)])
 
 
-def pairs(elements):
+def pairs(elements: Iterable[noriladle.Element]) -> str:
     return "\t".join(f"{it.ai}={it.value}" for it in elements)
 
 
-def as_json(it):
+def as_json(it: object) -> str:
     return json.dumps(it, ensure_ascii=False, separators=(",", ":"))
 
 
-def said_of(element):
+def said_of(element: noriladle.Element) -> dict[str, Any]:
     """What Python says about an element; npm names the parts of a place."""
     told = element.to_dict()
     if "place" in told:
@@ -134,17 +147,17 @@ def said_of(element):
     return told
 
 
-def by_python(line):
+def by_python(line: str) -> tuple[str, str]:
     """The line that the C call gives, and what the values say."""
     text = line[2:]
     try:
         if line[0] == "-":
             elements = noriladle.parse_elements(text, YEAR)
             return f"data {pairs(elements)}", as_json([said_of(it) for it in elements])
-        if line[0] == "=":
-            answer = noriladle.read_scan(text, YEAR)
-            symbol = SYMBOLS.index(answer.symbol)
-            return f"scan {answer.identifier or '-'} {symbol} {answer.gtin or '-'} {pairs(answer.elements)}", ""
+        if line[0] in "=~":
+            answer = (noriladle.read_text if line[0] == "~" else noriladle.read_scan)(text, YEAR)
+            carrier = SYMBOLS.index(answer.symbol)
+            return f"scan {answer.identifier or '-'} {carrier} {answer.gtin or '-'} {pairs(answer.elements)}", ""
         kind = KINDS[int(line[0])]
         # With a mark, since the digits of a GTIN may be elements too.
         symbol = noriladle.label_symbol(kind, f"^{text}" if kind == "gs1128" else text, YEAR)
@@ -153,18 +166,18 @@ def by_python(line):
         return str(refusal), as_json([pairs(refusal.before), refusal.ai])
 
 
-def asked_of(words, lines):
+def asked_of(words: Sequence[str], lines: Iterable[str]) -> list[str]:
     done = subprocess.run(words, input="".join(f"{it}\n" for it in lines).encode("latin-1"), stdout=subprocess.PIPE, check=True)
     return done.stdout.decode("utf-8").split("\n")[:-1]
 
 
-def by_program(texts):
+def by_program(texts: Iterable[str]) -> list[str]:
     """What `check` says about the texts, with elements in the form for people."""
     records = [f'text,"{it[2:]}"'.replace(SEPARATOR, "^") for it in texts]
     return asked_of([PROGRAM, "check", "--year", str(YEAR), "--ais", "all"], records)
 
 
-def human(line):
+def human(line: str) -> str:
     """The line of the program for a line of elements."""
     if line.startswith("refused"):
         return line
@@ -174,7 +187,7 @@ def human(line):
 class Count:
     differing = 0
 
-    def compare(self, name, asked, wanted, got):
+    def compare(self, name: str, asked: Sequence[str], wanted: Sequence[str], got: Sequence[str]) -> int:
         """Counts the lines that differ."""
         wrong = [at for at in range(len(wanted)) if at >= len(got) or got[at] != wanted[at]] + list(range(len(wanted), len(got)))
         self.differing += len(wrong)
@@ -183,7 +196,7 @@ class Count:
         return len(wanted) - len(wrong)
 
 
-def main():
+def main() -> bool:
     labels, texts, scans = made()
     lines, count = labels + texts + scans, Count()
     wanted, values = zip(*map(by_python, lines))

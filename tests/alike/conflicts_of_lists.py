@@ -6,6 +6,8 @@ tables/ais.tsv and tables/codes.tsv by itself:
 LIBRARY is libgs1.so and PACKAGE the npm package. A list has up to six elements of any AIs, some of them twice, with values that need not be right:
 the library looks at AIs and codes alone. The last line is the counts.
 """
+from __future__ import annotations
+
 import ctypes
 import itertools
 import json
@@ -14,6 +16,8 @@ import random
 import struct
 import subprocess
 import sys
+from ctypes import CDLL
+from typing import Iterable, Iterator
 
 ROOT = pathlib.Path(__file__).resolve().parents[2]
 TABLES = ROOT / "tables"
@@ -24,13 +28,13 @@ import noriladle
 KINDS = ("", "needs", "excludes", "differs", "country", "currency", "prefix")
 
 
-def ais_of(span):
+def ais_of(span: str) -> list[str]:
     least, _, greatest = span.partition("-")
     digits = (range(int(a), int(z) + 1) for a, z in zip(least, greatest or least))
     return ["".join(map(str, ai)) for ai in itertools.product(*digits)]
 
 
-def tables():
+def tables() -> tuple[dict[str, list[str]], set[str], set[str], set[str]]:
     """The associations of each AI, and the numbers and letters of countries and the numbers of currencies."""
     rows = [line.split("\t") for line in (TABLES / "ais.tsv").read_text("utf-8").splitlines()[1:]]
     codes = [line.split("\t") for line in (TABLES / "codes.tsv").read_text("utf-8").splitlines()[1:]]
@@ -42,11 +46,11 @@ def tables():
 ASSOCIATIONS, COUNTRIES, LETTERS, CURRENCIES = tables()
 
 
-def is_like(ai, pattern):
+def is_like(ai: str, pattern: str) -> bool:
     return len(ai) == len(pattern) and all(want in ("n", digit) for digit, want in zip(ai, pattern))
 
 
-def asked(at, elements):
+def asked(at: int, elements: list[tuple[str, str]]) -> Iterator[tuple[int, str, int, str]]:
     """What the AI of an element asks of the others."""
     ai = elements[at][0]
     if any(other == ai for other, _ in elements[:at]):
@@ -60,7 +64,7 @@ def asked(at, elements):
             yield at, "excludes", like[0], ""
 
 
-def code_of(ai, value):
+def code_of(ai: str, value: str) -> tuple[str, str] | None:
     """The first code of a value that is in no list, and what it should be."""
     if ai in ("423", "425"):
         codes = [value[at:at + 3] for at in range(0, len(value), 3)]
@@ -78,8 +82,8 @@ def code_of(ai, value):
     return None
 
 
-def model(elements):
-    found = []
+def model(elements: list[tuple[str, str]]) -> list[tuple[int, str, int, str]]:
+    found: list[tuple[int, str, int, str]] = []
     for at, (ai, value) in enumerate(elements):
         found += asked(at, elements)
         before = [i for i, (other, said) in enumerate(elements[:at]) if other == ai and said != value]
@@ -91,7 +95,7 @@ def model(elements):
     return found
 
 
-def by_c(library, elements):
+def by_c(library: CDLL, elements: list[tuple[str, str]]) -> list[tuple[int, str, int, str]]:
     text, places = "", b""
     for ai, value in elements:
         places += struct.pack("<3B15x", len(text), len(text + ai), len(text + ai + value))
@@ -104,26 +108,26 @@ def by_c(library, elements):
     return [(at, KINDS[kind], other, words.rstrip(b"\0").decode("ascii")) for kind, at, other, words in told]
 
 
-def by_python(elements):
+def by_python(elements: list[tuple[str, str]]) -> list[tuple[int, str, int, str]]:
     listed = [noriladle.Element(ai, value) for ai, value in elements]
     index = {id(element): at for at, element in enumerate(listed)}
     return [(index[id(it.element)], it.kind, index[id(it.other)] if it.other else 255, it.text) for it in noriladle.conflicts(listed)]
 
 
-def by_npm(package, every):
+def by_npm(package: str, every: list[list[tuple[str, str]]]) -> list[list[tuple[int, str, int, str]]]:
     """The conflicts of some lists, found by the npm package."""
     lines = "".join(f"{json.dumps(elements)}\n" for elements in every)
     said = subprocess.run(["node", str(ROOT / "tests/alike/npm_conflicts.mjs"), package], input=lines, stdout=subprocess.PIPE, text=True, check=True)
-    return [[tuple(it) for it in json.loads(line)] for line in said.stdout.splitlines()]
+    return [[(at, kind, other, text) for at, kind, other, text in json.loads(line)] for line in said.stdout.splitlines()]
 
 
-def lists(chance):
+def lists(chance: random.Random) -> Iterator[list[tuple[str, str]]]:
     ais = list(ASSOCIATIONS)
     codes = [*COUNTRIES, *CURRENCIES, "000", "999", "281"]
     asking = [ai for ai in ais if ASSOCIATIONS[ai]]
     coded = ["421", "422", "423", "424", "425", "426", "4307", "4317", "7030", "7039", "3910", "3932", "401"]
     while True:
-        elements = []
+        elements: list[tuple[str, str]] = []
         for _ in range(chance.randrange(1, 7)):
             ai = chance.choice([chance.choice(ais), chance.choice(asking), chance.choice(coded), chance.choice(["01", "02", "37", "00"]), chance.choice(elements or [("01", "")])[0]])
             if ai in ("4307", "4317"):
@@ -137,7 +141,7 @@ def lists(chance):
         yield elements
 
 
-def asked_of_npm(package, every):
+def asked_of_npm(package: str, every: Iterable[list[tuple[str, str]]]) -> Iterator[tuple[list[tuple[str, str]], list[tuple[int, str, int, str]]]]:
     """Each list, and the conflicts that the npm package finds in it."""
     while some := list(itertools.islice(every, 50_000)):
         found = by_npm(package, some)
@@ -145,12 +149,12 @@ def asked_of_npm(package, every):
         yield from zip(some, found)
 
 
-def in_order(found):
+def in_order(found: list[tuple[int, str, int, str]]) -> list[tuple[int, str, int, str]]:
     """Rules of one element may stand in any order."""
     return sorted(found)
 
 
-def main(path, package, count):
+def main(path: str, package: str, count: int) -> int:
     library = ctypes.CDLL(path)
     library.gs1_conflicts.restype = ctypes.c_size_t
     library.gs1_conflicts.argtypes = [ctypes.c_char_p, ctypes.c_char_p, ctypes.c_size_t]

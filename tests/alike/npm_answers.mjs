@@ -15,8 +15,8 @@ function answer(line) {
       const elements = gs1.parseElements(text, 2026);
       return `data ${pairsOf(elements)}\tvalues ${JSON.stringify(elements)}`;
     }
-    if (line[0] === "=") {
-      const answer = gs1.readScan(text, 2026);
+    if ("=~".includes(line[0])) {
+      const answer = line[0] === "~" ? gs1.readText(text, 2026) : gs1.readScan(text, 2026);
       return `scan ${answer.identifier ?? "-"} ${symbols.indexOf(answer.symbol)} ${answer.gtin ?? "-"} ${pairsOf(answer.elements)}`;
     }
     // With a mark, since the digits of a GTIN may be elements too.

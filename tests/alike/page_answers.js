@@ -8,13 +8,15 @@ for (const name of "gs1.module gs1 ais values shop core".split(" ")) vm.runInThi
 
 const inPage = vm.runInThisContext(`({
   async load() { gs1 = await Gs1.load(GS1_WASM_32, 32); core.year = 2026; },
+  read: (call, text) => gs1.read(call, ...gs1.put(text), core.terms),
   answer(line) {
     const text = line.slice(2);
-    const { refused: wrong, identifier, symbol, elements } = line[0] === "-" ? core.scan("^" + text) : line[0] === "=" ? core.scan(text) : {};
+    const { refused: wrong, identifier, symbol, elements } = line[0] === "-" ? this.read("gs1_c_read_message", "^" + text)
+      : line[0] === "=" ? this.read("gs1_c_read_message", text) : line[0] === "~" ? core.typed(text) : {};
     if (wrong) return wrong;
     const pairs = elements?.map(({ ai, value }) => ai + "=" + value).join("\t");
     if (line[0] === "-") return "data " + pairs;
-    if (line[0] === "=") return ["scan", identifier || "-", Gs1.symbols.indexOf(symbol), gtinOf(elements) ?? "-", pairs].join(" ");
+    if ("=~".includes(line[0])) return ["scan", identifier || "-", Gs1.symbols.indexOf(symbol), gtinOf(elements) ?? "-", pairs].join(" ");
     return core.symbol(Gs1.kinds[line[0]], text);
   },
 })`);

@@ -1,4 +1,6 @@
 """Compares how the Python module reads `struct gs1_answer` with the lines of answer_layout.c on standard input. The last line is the counts."""
+from __future__ import annotations
+
 import ctypes
 import json
 import sys
@@ -6,12 +8,12 @@ import sys
 import noriladle
 
 
-def element_as_data(element):
+def element_as_data(element: noriladle.Element) -> dict[str, str]:
     told = {name: getattr(element, name) for name in ("date", "until", "time")}
     return {"ai": element.ai, "value": element.value, **{name: it.isoformat() for name, it in told.items() if it is not None}}
 
 
-def answer_as_data(struct):
+def answer_as_data(struct: bytes) -> dict[str, object]:
     """What the module reads in the bytes of a struct, as if a call had written them."""
     try:
         answer = noriladle._read(lambda raw: ctypes.memmove(raw, struct, ctypes.sizeof(raw)))
@@ -21,7 +23,7 @@ def answer_as_data(struct):
     return {"identifier": answer.identifier, "symbol": answer.symbol, "count": len(answer.elements), "first": first, "last": last}
 
 
-def main():
+def main() -> bool:
     compared, wrong, symbols = 0, 0, []
     for line in sys.stdin:
         asked, said = line.rstrip("\n").split("\t")

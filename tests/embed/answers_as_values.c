@@ -209,6 +209,27 @@ static void conflicts_of_any(const struct gs1_answer *answer, size_t room) {
     }
 }
 
+/* What is written of a struct of any bytes: nothing beyond the room, and an error or a text that is read as the same elements. */
+static void write_any(const struct gs1_answer *answer, size_t room) {
+    static const char *const words[] = {"]C1", "]d1", "https://id.gs1.org", "https://x.de/?"};
+    static uint8_t out[1001];
+    for (size_t i = 0; i < 4; i++) {
+        size_t (*write)(const struct gs1_answer *, const uint8_t *, size_t, uint16_t, uint8_t *, size_t) = i < 2 ? gs1_scan_text : gs1_link;
+        const uint8_t *word = (const uint8_t *)words[i];
+        size_t size = write(answer, word, strlen(words[i]), GS1_EVERY_AI | 2026, out, 1000), length = size;
+        same_number("most of what is written", size > GS1_LINK + 18, 0);
+        if (!answer->fault && !gs1_status(out, size)) {
+            struct gs1_answer again;
+            same_number("written and read", (unsigned long)gs1_read_message(out, length, GS1_EVERY_AI | 2026, &again), 0);
+            same_number("elements written and read", again.count, answer->count);
+        }
+        out[0] = out[room] = 0x5c;
+        same_number("size of what is written", (unsigned long)write(answer, word, strlen(words[i]), GS1_EVERY_AI | 2026, out, room), size);
+        same_number("beyond what is written", out[room], 0x5c);
+        if (size > room) same_number("what does not fit", out[0], 0x5c);
+    }
+}
+
 /* A million structs of any bytes, and rooms of 0 to 4,096: nothing is read outside of the struct, nothing is written beyond the room. */
 static void format_any(unsigned long times) {
     static uint8_t out[4097];
@@ -234,6 +255,7 @@ static void format_any(unsigned long times) {
         /* Half of them have digits alone. */
         for (size_t k = 0; i % 40 && k < sizeof answer.text; k++) answer.text[k] = (uint8_t)('0' + answer.text[k] % 10);
         conflicts_of_any(&answer, room % 240);
+        write_any(&answer, room % 1000);
     }
 }
 
@@ -259,6 +281,10 @@ int main(int count, char **words) {
     same_number("no dots", (unsigned long)gs1_read_dots(NULL, 9, 2026, &answer), GS1_FAULT_BAD_RUNS);
     same_number("no answer", (unsigned long)gs1_format(NULL, GS1_AS_DATA, NULL, 0), strlen("refused 40 Kind"));
     same_number("no conflicts", (unsigned long)(gs1_conflicts(NULL, NULL, 3) + gs1_conflicts(&answer, NULL, 3)), 0);
+    same_number("no text of a scanner", (unsigned long)gs1_scan_text(NULL, NULL, 3, 2026, NULL, 9), strlen("refused 40 Kind"));
+    same_number("no link", (unsigned long)gs1_link(NULL, NULL, 3, 2026, NULL, 9), strlen("refused 40 Kind"));
+    same_number("no year", (unsigned long)gs1_link(NULL, NULL, 3, 1950, NULL, 9), strlen("refused 42 Words"));
+    same_number("no lines", (unsigned long)(gs1_read_messages(NULL, 3, 2026, &answer, 1, NULL) + gs1_read_gtins((const uint8_t *)"1", 1, 2026, NULL, 9, NULL)), 0);
     if (!rows) format_any(1000000);
     printf("%lu answers as values, %lu differ\n", asked, wrong);
     return wrong ? 1 : 0;

@@ -3,10 +3,13 @@
 Usage: calls_by_ctypes.py LIBRARY [elements]. With `elements` it answers the element strings of standard input, one a line, with every AI, element
 by element. Without it the last line is the counts, and the status is 0 if none is wrong.
 """
+from __future__ import annotations
+
 import ctypes
 import pathlib
 import re
 import sys
+from typing import Any, Iterator
 
 YEAR, EVERY_AI = 2026, 0x8000
 EAN8 = [7, 1, 1, 1, 3, 1, 1, 2, 1, 1, 1, 4, 1, 4, 1, 1, 1, 2, 1, 3, 1, 1, 1, 1, 1, 1, 2, 3, 1, 3, 2, 1, 1, 1, 3, 1, 2, 1, 1, 3, 2, 1, 1, 1, 7]
@@ -17,7 +20,7 @@ class Bytes(ctypes.Structure):
 
     _fields_ = [("at", ctypes.c_void_p), ("count", ctypes.c_size_t)]
 
-    def text(self):
+    def text(self) -> bytes:
         return ctypes.string_at(self.at, self.count)
 
 
@@ -32,7 +35,7 @@ TEXT, OUT, LINE = [ctypes.c_char_p, ctypes.c_size_t], [ctypes.c_void_p, ctypes.c
 WIDTHS = [ctypes.POINTER(ctypes.c_uint16), ctypes.c_size_t]
 DOTS = [ctypes.c_char_p, ctypes.c_uint32]
 YEARS = [ctypes.c_uint16]
-TYPES = {
+TYPES: dict[str, list[Any]] = {
     "gs1_row": WIDTHS + YEARS + OUT, "gs1_row_elements": WIDTHS + YEARS + OUT, "gs1_find": WIDTHS + YEARS + OUT,
     "gs1_dots": DOTS + YEARS + OUT, "gs1_dots_elements": DOTS + YEARS + OUT, "gs1_find_dots": DOTS + YEARS + OUT,
     "gs1_date": TEXT + YEARS + OUT, "gs1_scan": TEXT + YEARS + OUT, "gs1_gtin": TEXT + OUT, "gs1_digit": TEXT + OUT,
@@ -49,7 +52,7 @@ for name, types in TYPES.items():
     call.argtypes, call.restype = types, ctypes.c_int if name in ("gs1_status", "gs1_next") else ctypes.c_size_t
 
 
-def asked(name, *words):
+def asked(name: str, *words: object) -> bytes:
     """The answer of a call, with a buffer as large as it needs."""
     call = getattr(library, name)
     length = call(*words, None, 0)
@@ -58,7 +61,7 @@ def asked(name, *words):
     return out.raw[:length]
 
 
-def elements(line):
+def elements(line: bytes) -> Iterator[tuple[bytes, bytes]]:
     """The elements of a line."""
     held = ctypes.create_string_buffer(line, len(line) + 1)
     rest, element = Bytes(ctypes.addressof(held), len(line)), Element()
@@ -66,7 +69,7 @@ def elements(line):
         yield element.ai.text(), element.value.text()
 
 
-def said(text):
+def said(text: bytes) -> bytes:
     """The line of an element string for people, put together from its elements."""
     line = asked("gs1_text_elements", text, len(text), EVERY_AI | YEAR)
     if library.gs1_status(line, len(line)):
@@ -74,7 +77,7 @@ def said(text):
     return b"hri " + b"".join(b"(%b)%b" % pair for pair in elements(line))
 
 
-def main():
+def main() -> int:
     if sys.argv[2:]:
         for line in sys.stdin:
             print(said(line.rstrip("\n").replace("^", chr(29)).encode()).decode())

@@ -4,9 +4,12 @@ Usage: date_questions.py INTO [elements]. INTO.asked gets lines of a year, a com
 `elements` it leaves out those that must be refused. It asks every reference year about every year of two digits, four years about every month
 and day of two digits, and one day about times of 0 to 8 digits. It searches for years and days, and does not compute them.
 """
+from __future__ import annotations
+
 import calendar
 import functools
 import sys
+from typing import Iterator
 
 DAYS = ["11", "12", "13", "15", "16", "17"]
 # The numbers of digits of an AI's times.
@@ -25,14 +28,14 @@ REFUSED = {
 
 
 @functools.cache
-def year_of(digits, reference):
+def year_of(digits: str, reference: int) -> int:
     """The one year with these last two digits from 49 before the reference year to 50 after it."""
     year, = [year for year in range(reference - 49, reference + 51) if f"{year:04}"[2:] == digits]
     return year
 
 
 @functools.cache
-def day_of(six, reference, with_last):
+def day_of(six: str, reference: int, with_last: bool) -> str | None:
     """The day that six digits name, if they name one. Day 00 is the last of its month, if the AI allows it."""
     year = year_of(six[:2], reference)
     if not "01" <= six[2:4] <= "12":
@@ -42,7 +45,7 @@ def day_of(six, reference, with_last):
     return f"{year}-{six[2:4]}-{day}" if day in days else None
 
 
-def time_of(digits):
+def time_of(digits: str) -> str | None:
     """The time that two, four or six digits name, if they name one."""
     parts = [digits[at:at + 2] for at in range(0, len(digits), 2)]
     if any(part not in [f"{number:02}" for number in range(most)] for part, most in zip(parts, (24, 60, 60))):
@@ -50,7 +53,7 @@ def time_of(digits):
     return ":".join(parts + ["00"] * (3 - len(parts)))
 
 
-def answer(ai, value, reference):
+def answer(ai: str, value: str, reference: int) -> str:
     if ai in DAYS:
         day = day_of(value, reference, True)
         return "refused 9 ValueDate 0" if day is None else f"date {day}"
@@ -60,19 +63,19 @@ def answer(ai, value, reference):
     return "refused 9 ValueDate 0" if day is None or time is None else f"date {day} {time}"
 
 
-def questions():
+def questions() -> Iterator[tuple[int, str, str]]:
     """Each question: a reference year, a pair and its answer."""
     asked = []
     for reference in range(1951, 2150):
         for year in range(100):
-            for day in ("1231", ("0229", "0200")[(reference + year // 7) % 2]):
-                asked.append((reference, DAYS[(reference + year) % len(DAYS)], f"{year:02}{day}"))
-    for reference, year in ((2026, "26"), (2026, "28"), (2000, "00"), (2100, "00")):
+            for rest in ("1231", ("0229", "0200")[(reference + year // 7) % 2]):
+                asked.append((reference, DAYS[(reference + year) % len(DAYS)], f"{year:02}{rest}"))
+    for reference, two in ((2026, "26"), (2026, "28"), (2000, "00"), (2100, "00")):
         for month in range(100):
             for day in range(100):
-                asked.append((reference, DAYS[(month + day) % len(DAYS)], f"{year}{month:02}{day:02}"))
+                asked.append((reference, DAYS[(month + day) % len(DAYS)], f"{two}{month:02}{day:02}"))
         for ai, month, day in ((ai, month, day) for ai in DAYS + [*TIMES] for month in range(14) for day in range(34)):
-            asked.append((reference, ai, f"{year}{month:02}{day:02}" + "235958"[:max(TIMES.get(ai, [0]))]))
+            asked.append((reference, ai, f"{two}{month:02}{day:02}" + "235958"[:max(TIMES.get(ai, [0]))]))
     for ai in TIMES:
         for digits in range(9):
             asked.append((2026, ai, "261231" + "1203040506"[:digits]))

@@ -6,7 +6,10 @@
     titles    AIs, for their titles             dates     a year, a comma, an AI, `=` and a value
 
 The year is 2026, except for `dates`."""
+from __future__ import annotations
+
 import sys
+from typing import Iterable
 
 import noriladle
 
@@ -18,7 +21,7 @@ CHECKS = {
 }
 
 
-def packed(widths):
+def packed(widths: list[int]) -> tuple[bytes, int]:
     """The packed dots of these widths, and how many they are. The bits after the last dot are dark."""
     bits = "".join("01"[i % 2] * width for i, width in enumerate(widths))
     count = len(bits)
@@ -26,12 +29,12 @@ def packed(widths):
     return int("0" + bits, 2).to_bytes(len(bits) // 8, "big"), count
 
 
-def lines_of(found):
+def lines_of(found: Iterable[noriladle.Found]) -> str:
     """The lines of symbols, in the form of the C call."""
     return "".join(f"{it.first} {it.count} {it.answer}\n" for it in found)
 
 
-def dated(year, pair):
+def dated(year: str, pair: str) -> str:
     """The day and the time of an element, in the form of the C call."""
     element, = noriladle.parse_elements(pair.replace("=", "", 1), int(year))
     if element.date is None:
@@ -39,7 +42,7 @@ def dated(year, pair):
     return f"date {element.date:%Y-%m-%d}" + ("" if element.time is None else f" {element.time:%H:%M:%S}")
 
 
-def answer(line):
+def answer(line: str) -> object:
     first, _, second = line.rstrip("\n").partition(",")
     if sys.argv[1] == "titles":
         return noriladle.Element(line.rstrip("\n"), "").title

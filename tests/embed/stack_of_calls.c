@@ -11,6 +11,7 @@ enum { MOST_STACK = 48 * 1024, MOST_OF_DRAW = 160 * 1024, STACK = 1024 * 1024, P
 
 static const char STRING[] = "0109501101530003" "3103001750" "390201995\x1d" "17261231" "10LOT7\x1d" "7007260228260301\x1d" "21SERIAL";
 static const char LINK[] = "https://id.gs1.org/some/path/01/9501101530003/10/LOT%37/21/SERIAL?17=261231&3103=001750&7007=260228260301&x=y";
+static const char PRINTED[] = "(01) 0 9501101 53000 3 (3103)001750 (3902)01995 (17)261231 (10)LOT(7) (7007)260228260301 (310)001750";
 static uint16_t widths[600];
 static uint8_t bits[100], out[1 << 16];
 static struct gs1_answer answer;
@@ -33,10 +34,19 @@ static void symbol(const uint8_t *text, size_t length) { gs1_symbol(GS1_GS1128, 
 static void read_message(const uint8_t *text, size_t length) { gs1_read_message(text, length, YEAR, &answer); }
 static void read_elements(const uint8_t *text, size_t length) { gs1_read_elements(text, length, YEAR, &answer); }
 static void read_gtin(const uint8_t *text, size_t length) { gs1_read_gtin(text, length, YEAR, &answer); }
+static void read_text(const uint8_t *text, size_t length) { gs1_read_text(text, length, YEAR, &answer); }
 static void read_row(const uint8_t *text, size_t length) { (void)text, gs1_read_row(widths, length, YEAR, &answer); }
 static void read_dots(const uint8_t *text, size_t length) { gs1_read_dots(text, 8 * length, YEAR, &answer); }
 static void read_data(const uint8_t *text, size_t length) { gs1_read_data(text, length, YEAR, &answer); }
 static void format(const uint8_t *text, size_t length) { read_message(text, length), gs1_format(&answer, GS1_AS_DATA, out, sizeof out); }
+static void read_messages(const uint8_t *text, size_t length) { gs1_read_messages(text, length, YEAR, &answer, 1, NULL); }
+static void read_gtins(const uint8_t *text, size_t length) { gs1_read_gtins(text, length, YEAR, &answer, 1, NULL); }
+static void scan_text(const uint8_t *text, size_t length) {
+    read_message(text, length), gs1_scan_text(&answer, (const uint8_t *)"]d2", 3, YEAR, out, sizeof out);
+}
+static void link_of(const uint8_t *text, size_t length) {
+    read_message(text, length), gs1_link(&answer, (const uint8_t *)"https://id.gs1.org", 18, YEAR, out, sizeof out);
+}
 static void conflicts(const uint8_t *text, size_t length) { read_message(text, length), gs1_conflicts(&answer, (struct gs1_conflict *)out, 48); }
 
 static void draw(const uint8_t *text, size_t length) {
@@ -99,9 +109,11 @@ int main(int count, char **words) {
         {"gs1_digit", digit, "950110153000", 12}, {"gs1_text", text_hri, STRING, sizeof STRING - 1},
         {"gs1_text_elements", text_elements, STRING, sizeof STRING - 1}, {"gs1_label", label, STRING, 26}, {"gs1_symbol", symbol, STRING, 26},
         {"gs1_read_message", read_message, LINK, sizeof LINK - 1}, {"gs1_read_elements", read_elements, STRING, sizeof STRING - 1},
-        {"gs1_read_gtin", read_gtin, "9501101530003", 13}, {"gs1_read_row", read_row, widths, runs + 1}, {"gs1_read_dots", read_dots, bits, sizeof bits},
+        {"gs1_read_gtin", read_gtin, "9501101530003", 13}, {"gs1_read_text", read_text, PRINTED, sizeof PRINTED - 1},
+        {"gs1_read_row", read_row, widths, runs + 1}, {"gs1_read_dots", read_dots, bits, sizeof bits},
         {"gs1_read_data", read_data, line, strlen(line)}, {"gs1_format", format, LINK, sizeof LINK - 1},
-        {"gs1_conflicts", conflicts, LINK, sizeof LINK - 1},
+        {"gs1_conflicts", conflicts, LINK, sizeof LINK - 1}, {"gs1_read_messages", read_messages, LINK, sizeof LINK - 1},
+        {"gs1_read_gtins", read_gtins, "9501101530003", 13}, {"gs1_scan_text", scan_text, LINK, sizeof LINK - 1}, {"gs1_link", link_of, LINK, sizeof LINK - 1},
     };
     size_t most = 0, empty = stack_of((struct asked){"nothing", nothing, NULL, 0});
     for (size_t i = 0; i < sizeof all / sizeof *all; i++) {

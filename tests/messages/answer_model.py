@@ -4,10 +4,13 @@ standards, and not from the code. The table of AIs is that of the tests of the c
 Texts are bytes. An error is raised as a `Fault`, with the words after `refused`.
 """
 
+from __future__ import annotations
+
 import calendar
 import re
 import sys
 from pathlib import Path
+from typing import Callable, Sequence
 
 sys.path.insert(0, str(Path(__file__).parents[1] / "commands"))
 from element_strings import ANY, CHECKED, DATE, PARTS, TIME, X, check_digit, is_predefined, lengths  # noqa: E402
@@ -28,24 +31,24 @@ class Fault(Exception):
     """Why a text is refused."""
 
 
-def century(year_of_two, reference):
+def century(year_of_two: int, reference: int) -> int:
     """The year of two digits: from 49 before the reference to 50 after."""
     return next(it for it in range(reference - 49, reference + 51) if it % 100 == year_of_two)
 
 
-def is_day(text, reference, from_day):
+def is_day(text: str, reference: int, from_day: int) -> bool:
     """Whether YYMMDD is a day. Day 00 is the last of its month, if it is allowed."""
     year, month, day = century(int(text[:2]), reference), int(text[2:4]), int(text[4:6])
     return 1 <= month <= 12 and from_day <= day <= calendar.monthrange(year, month)[1]
 
 
-def is_moment(text, reference):
+def is_moment(text: str, reference: int) -> bool:
     """Whether YYMMDDHH, with MM and SS behind it or not, is a day and a time."""
     hour, minute, second = (int(text[it : it + 2] or "0") for it in (6, 8, 10))
     return is_day(text, reference, 1) and hour < 24 and minute < 60 and second < 60
 
 
-def check_value(ai, value, reference, place):
+def check_value(ai: str, value: str, reference: int, place: int) -> None:
     """Raises the error of a value of a valid length: of its characters, its check digit or its day, in this order."""
     cut, rest = [], value
     for part in PARTS[ai]:
@@ -59,13 +62,13 @@ def check_value(ai, value, reference, place):
         raise Fault(f"9 ValueDate {place}")
 
 
-def elements_in(text, reference):
+def elements_in(data: bytes, reference: int) -> list[tuple[str, str]]:
     """The elements of an element string, whose separators are byte 29."""
-    if len(text) > MOST_TEXT:
+    if len(data) > MOST_TEXT:
         raise Fault("11 TooLong")
-    if not text:
+    if not data:
         raise Fault("4 Empty")
-    text, place, found = text.decode("latin-1"), 0, []
+    text, place, found = data.decode("latin-1"), 0, []
     while place < len(text):
         ai = next((text[place : place + count] for count in (2, 3, 4) if text[place : place + count] in PARTS), None)
         if ai is None:
@@ -84,7 +87,7 @@ def elements_in(text, reference):
     return found
 
 
-def elements_of(pairs, reference):
+def elements_of(pairs: list[tuple[bytes, bytes]], reference: int) -> list[tuple[str, str]]:
     """The elements of pairs of an AI and a value."""
     if len(pairs) > MOST_ELEMENTS or any(len(it) > MOST_TEXT for pair in pairs for it in pair):
         raise Fault("11 TooLong")
@@ -101,7 +104,7 @@ def elements_of(pairs, reference):
     return told
 
 
-def gtin_of(digits, sizes):
+def gtin_of(digits: bytes, sizes: Sequence[int]) -> list[tuple[str, str]]:
     """The element of a GTIN of one of these numbers of digits."""
     text = digits.decode("latin-1")
     if len(text) not in sizes:
@@ -114,7 +117,7 @@ def gtin_of(digits, sizes):
     return [("01", text.rjust(14, "0"))]
 
 
-def widened(six):
+def widened(six: str) -> str:
     """The eleven digits of a GTIN-12 without its check digit, of the six of a UPC-E."""
     if six[5] in "012":
         return f"0{six[:2]}{six[5]}0000{six[2:5]}"
@@ -125,7 +128,7 @@ def widened(six):
     return f"0{six[:5]}0000{six[5]}"
 
 
-def upce_of(digits):
+def upce_of(digits: bytes) -> list[tuple[str, str]]:
     """The element of the eight digits of a UPC-E: 0, six and the check digit of its GTIN-12."""
     text = digits.decode("latin-1")
     other = re.search("[^0-9]", text)
@@ -139,7 +142,7 @@ def upce_of(digits):
     return [("01", f"00{front}{text[7]}")]
 
 
-def part_of_key(segments):
+def part_of_key(segments: list[bytes]) -> list[bytes] | None:
     """The segments from the key on. Searches from the end, two segments at a time, for a key."""
     found = None
     for begin in range(len(segments) - 2, -1, -1):
@@ -157,7 +160,7 @@ def part_of_key(segments):
     return found
 
 
-def elements_of_link(text, reference):
+def elements_of_link(text: bytes, reference: int) -> list[tuple[str, str]]:
     """The elements of a Digital Link."""
     uri = re.fullmatch(rb"(?i:https?)://([^/?#]+)(?:/([^?#]*))?(?:\?([^#]*))?(?:#(.*))?", text, re.DOTALL)
     if not uri or re.search(rb"[^!-~]", text) or re.search(rb"%(?![0-9A-Fa-f]{2})", text):
@@ -173,17 +176,17 @@ def elements_of_link(text, reference):
     return elements_of(pairs, reference)
 
 
-def uncoded(text):
+def uncoded(text: bytes) -> bytes:
     """A text with its percent codes replaced by bytes."""
     return re.sub(rb"%(..)", lambda it: bytes.fromhex(it[1].decode()), text)
 
 
-def is_message(text):
+def is_message(text: bytes) -> bool:
     """Whether a field is a text of a scanner."""
     return bool(re.match(rb"[]^\x1d]|[0-9]{8}|(?i:https?)://", text))
 
 
-def said(text, reference):
+def said(text: bytes, reference: int) -> tuple[bytes, list[tuple[str, str]]]:
     """The identifier and the elements of a text of a scanner."""
     text = text.rstrip(b" \t\n\f\r")
     front, behind = text[:3], text[3:]
@@ -203,7 +206,7 @@ def said(text, reference):
     raise Fault("40 Kind")
 
 
-def answer(text, reference, as_pairs):
+def answer(text: bytes, reference: int, as_pairs: bool) -> str:
     """The answer to a text of a scanner."""
     try:
         word, elements = said(text, reference)
@@ -213,7 +216,7 @@ def answer(text, reference, as_pairs):
     return f"{word.decode()} {shown}"
 
 
-def row_fault(field):
+def row_fault(field: bytes) -> str:
     """Why a field is no row, or None."""
     words = field.split(b" ")
     if not all(re.fullmatch(rb"[0-9]{1,5}", it) for it in words):
@@ -227,11 +230,11 @@ def row_fault(field):
 class Hub:
     """A run of `live`: the numbers of its lanes, and the answers to rows, by their fields."""
 
-    def __init__(self, lanes, year, as_pairs, rows):
+    def __init__(self, lanes: int, year: int, as_pairs: bool, rows: Callable[..., object]) -> None:
         self.lanes, self.year, self.as_pairs, self.rows = lanes, year, as_pairs, rows
         self.numbers = lanes * [0]
 
-    def line(self, record):
+    def line(self, record: bytes) -> str:
         """The line that answers a line of the input, or None for one that is no record."""
         record = record.removesuffix(b"\r")
         if not record:

@@ -1,7 +1,11 @@
 """Makes random texts of scanners, rows, noise and Digital Links, valid ones and every kind of damage. The same seed gives the same texts."""
 
+from __future__ import annotations
+
+import random
 import re
 import string
+from typing import Sequence
 
 from element_strings import ANY, CHECKED, DATE, PARTS, TIME, X, check_digit, is_predefined, lengths
 from answer_model import QUALIFIERS
@@ -16,17 +20,17 @@ TAKEN = ["]E0", "]E4", "]I1", "]C1", "]e0", "]d2", "]Q3", "]J1", "]d1", "]Q1"]
 MARKS = b"\x1d^],%/?&=#;+: .\x00\x7f\x80\xff\t\r0159AZaz(~"
 
 
-def digits(rng, count):
+def digits(rng: random.Random, count: int) -> str:
     return "".join(rng.choices(string.digits, k=count))
 
 
-def numbered(rng, count):
+def numbered(rng: random.Random, count: int) -> str:
     """This many digits; the last is mostly their check digit."""
     text = digits(rng, count - 1)
     return text + (check_digit(text) if rng.random() < 0.9 else rng.choice(string.digits))
 
 
-def value(rng, ai):
+def value(rng: random.Random, ai: str) -> str:
     """A value of an AI, mostly a right one."""
     length = rng.choice(lengths(ai))
     told = ""
@@ -47,7 +51,7 @@ def value(rng, ai):
     return told
 
 
-def damaged(rng, text):
+def damaged(rng: random.Random, text: bytes) -> bytes:
     """A text with a byte removed, inserted or replaced, a part repeated, or cut, at any place."""
     place, other = rng.randrange(len(text) + 1), rng.randrange(len(text) + 1)
     mark = bytes([rng.choice(MARKS) if rng.random() < 0.8 else rng.randrange(256)])
@@ -61,7 +65,7 @@ def damaged(rng, text):
     ])().replace(b"\n", b"\r")
 
 
-def element_string(rng):
+def element_string(rng: random.Random) -> bytes:
     """An element string, sometimes with too many separators, or too few."""
     text = rng.choice(["", "", "", "^", "\x1d", "^^"])
     for ai in rng.choices(AIS, k=rng.choice([0, 1, 1, 2, 2, 3, 4, 8])):
@@ -75,7 +79,7 @@ def element_string(rng):
     return text.encode("latin-1")
 
 
-def number(rng):
+def number(rng: random.Random) -> str:
     """The digits of a number of any kind, as the symbol shows them."""
     kind = rng.randrange(6)
     if kind == 0:
@@ -88,7 +92,7 @@ def number(rng):
     return numbered(rng, rng.choice([8, 8, 12, 13, 13, 14]))
 
 
-def message(rng):
+def message(rng: random.Random) -> bytes:
     """A text of a scanner, one in ten damaged, with anything at its end."""
     kind = rng.random()
     front = rng.choice(TAKEN if rng.random() < 0.95 else IDENTIFIERS)
@@ -108,14 +112,14 @@ def message(rng):
     return text.replace(b"\n", b"\r")
 
 
-def coded(rng, text, chance):
+def coded(rng: random.Random, text: str, chance: float) -> str:
     """A text with some bytes as percent codes: delimiters of a URI mostly, others with this probability."""
     return "".join(
         f"%{ord(it):{rng.choice(['02x', '02X'])}}" if rng.random() < (0.97 if it in "/%?#&" else chance) else it for it in text
     )
 
 
-def segments(rng):
+def segments(rng: random.Random) -> list[str]:
     """A path from its key on."""
     key = rng.choice(list(QUALIFIERS)).decode() if rng.random() < 0.4 else "01"
     order = QUALIFIERS.get(key.encode(), b"").decode().split()
@@ -133,7 +137,7 @@ def segments(rng):
     return parts
 
 
-def parameter(rng):
+def parameter(rng: random.Random) -> str:
     """A parameter of a query: mostly an AI."""
     if rng.random() < 0.3:
         return rng.choice(["linkType=gs1:pip", "utm_source=x", "", "=", "a", "10a=1", "context=%41", "k=a=b", "=10", "01+=1"])
@@ -147,7 +151,7 @@ def parameter(rng):
     return ai + ("=" if rng.random() < 0.97 else rng.choice(["", "==", "%3D"])) + told
 
 
-def link(rng):
+def link(rng: random.Random) -> bytes:
     """A Digital Link, or what looks like one."""
     scheme = some(rng, ["https://", "http://", "HTTP://", "hTTps://"], ["https:/", "ftp://", "", "https:///"])
     host = some(rng, ["id.gs1.org", "example.com", "h", "[2001:db8::1]:443", "u:p@h:8", "xn--bcher-kva.example", "H%41"], ["a#b", "", "h?", "\u00fc"])
@@ -155,18 +159,18 @@ def link(rng):
     path = "/".join([*stems, *segments(rng)]) + some(rng, ["", "", "", "", "/"], ["//", "/x", "/%"])
     query = "?" + "&".join(parameter(rng) for _ in range(rng.choice([0, 1, 1, 2, 3, 6]))) if rng.random() < 0.5 else ""
     text = f"{scheme}{host}/{path}{query}" + some(rng, ["", "", "", "", "#", "#/01/1?10=A"], ["#%", "#\t"])
-    text = text.encode("utf-8" if rng.random() < 0.5 else "latin-1")
+    data = text.encode("utf-8" if rng.random() < 0.5 else "latin-1")
     if rng.random() < 0.15:
-        text = damaged(rng, text)
-    return rare(rng, text) if rng.random() < 0.004 else text
+        data = damaged(rng, data)
+    return rare(rng, data) if rng.random() < 0.004 else data
 
 
-def some(rng, right, wrong):
+def some(rng: random.Random, right: Sequence[str], wrong: Sequence[str]) -> str:
     """One of these, mostly a right one."""
     return rng.choice(right if rng.random() < 0.98 else wrong)
 
 
-def rare(rng, text):
+def rare(rng: random.Random, text: bytes) -> bytes:
     """A link with very many parts, or very long ones."""
     many = rng.choice([47, 48, 49, 192, 193, 1_000, 10_000])
     front, slash, behind = text.partition(b"/01/")
@@ -182,7 +186,7 @@ def rare(rng, text):
     ])()
 
 
-def upce_row(six, check):
+def upce_row(six: str, check: str) -> str:
     """The widths of a UPC-E with its light ends, by the tables of ISO/IEC 15420."""
     return f"9 1 1 1 {' '.join(LEFT[int(digit)][letter == 'B'] for digit, letter in zip(six, PARITIES[int(check)]))} 1 1 1 1 1 1 7"
 
@@ -192,7 +196,7 @@ LEFT = [(" ".join(it), " ".join(reversed(it))) for it in "3211 2221 2122 1411 11
 PARITIES = "BBBAAA BBABAA BBAABA BBAAAB BABBAA BAABBA BAAABB BABABA BABAAB BAABAB".split()
 
 
-def known_rows():
+def known_rows() -> list[tuple[str, str]]:
     """Rows whose symbols the standards print, with what they say."""
     rows = [(f"11 {' '.join(''.join(it.split()))} 7", f"]E0 (01){text.rjust(14, '0')}") for text, it in ((it[0], it[1]) for it in EAN13)]
     rows += [(f"9 {' '.join(''.join(it.split()))} 7", f"]E0 (01)00{text}") for _, text, it in UPCE + OTHER_UPCE]
@@ -203,11 +207,11 @@ def known_rows():
 class Rows:
     """Rows whose answers are known, by their fields."""
 
-    def __init__(self):
+    def __init__(self) -> None:
         self.known = known_rows()
         self.said = {b"100": "refused 19 Blank", b"0": "refused 19 Blank", b"0 65535 0": "refused 20 RunCount", b"7 1 7": "refused 20 RunCount"}
 
-    def field(self, rng):
+    def field(self, rng: random.Random) -> bytes:
         """A row, from either end, at 1 to 3 dots a module."""
         if rng.random() < 0.1:
             return rng.choice(list(self.said)[:4])
@@ -220,7 +224,7 @@ class Rows:
         self.said[field] = told
         return field
 
-    def answer(self, field, as_pairs):
+    def answer(self, field: bytes, as_pairs: bool) -> str:
         """The answer to a field, also to one of noise: blank, or with too few runs for a symbol."""
         told = self.said.get(field)
         if told is None:
@@ -230,7 +234,7 @@ class Rows:
         return re.sub(r"\((\d+)\)(\d+)", r"\1=\2", told) if as_pairs else told
 
 
-def noise(rng):
+def noise(rng: random.Random) -> bytes:
     """A line that is mostly neither a row nor a text."""
     kind = rng.randrange(5)
     if kind == 0:
@@ -244,7 +248,7 @@ def noise(rng):
     return damaged(rng, b"1,10 1 1 1 7")
 
 
-def record(rng, rows):
+def record(rng: random.Random, rows: Rows) -> bytes:
     """A line of an input of `live`."""
     kind = rng.random()
     if kind < 0.1:

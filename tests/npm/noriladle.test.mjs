@@ -67,11 +67,10 @@ test("texts as they are printed and typed", () => {
   for (const [text, said] of [
     ["(01)09501101530003 (17)261231\n", "(01)09501101530003(17)261231"], ["[10]A(1)[17]261231", "(10)A(1)(17)261231"], ["10AB^17261231", "(10)AB(17)261231"], ["]C110AB", "(10)AB"],
     ["https://id.gs1.org/01/09501101530003/10/AB", "(01)09501101530003(10)AB"], ["978-3-16-148410-0", "(01)09783161484100"], ["96385074", "(01)00000096385074"],
-    ["(310)3001250", "refused 5 UnknownAi 0"], ["(10)A(1)", "refused 5 UnknownAi"], ["(17)261331", "refused 9 ValueDate 0"], ["9501101530004", "refused 3 CheckDigit"],
+    ["(310)3001250", "refused 5 UnknownAi 0"], ["(10)A(1)", "(10)A(1)"], ["(310)3 001250", "refused 5 UnknownAi 0"], ["(10)AB 12", "refused 7 ValueCharacter 0"], ["(17)261331", "refused 9 ValueDate 0"], ["9501101530004", "refused 3 CheckDigit"],
     ["00000000", "refused 40 Kind"], ["01234565", "refused 40 Kind"], ["]E3123", "refused 40 Kind"], ["", "refused 1 Length"],
   ]) assert.equal(told(() => gs1.readText(text, 2026).text), said, text);
   assert.equal(gs1.readText("]C110AB", 2026).symbol, "gs1128");
-  assert.deepEqual(thrown(() => gs1.readText("(10)A(1)", 2026)).fixes, ["[10]A(1)"]);
   assert.deepEqual(thrown(() => gs1.readText("9501101530004", 2026)).fixes, ["9501101530003"]);
   for (const text of ["9501101530003", "(10)AB", "]C110AB"]) assert.throws(() => gs1.readText(text, 1900), { number: 42 });
   assert.equal(gs1.readText("(17)510101", 2026)["17"].date, "2051-01-01");
@@ -135,6 +134,26 @@ test("every Application Identifier, or those of the profile", () => {
   assert.throws(() => gs1.drawLabel("gs1128", "235ABC", { year: 2026, width: 400, height: 3, ais: "profile" }), { number: 5 });
   assert.throws(() => gs1.labelSymbol("gs1128", "235ABC", 2026, { ais: "profile" }), { number: 5 });
   assert.throws(() => gs1.readScan("]C1235ABC", 2026, { ais: "some" }), RangeError);
+});
+
+test("texts of scanners and links of elements", () => {
+  const answer = gs1.readScan("]C117261231" + "10A/1\x1d" + "0109501101530003", 2026);
+  assert.equal(gs1.scanText(answer, "]d2"), "]d21726123110A/1\x1d0109501101530003");
+  assert.equal(gs1.link(answer, "https://example.com/", 2026), "https://example.com/01/09501101530003/10/A%2F1?17=261231");
+  assert.deepEqual(gs1.readScan(gs1.link(answer), 2026).elements.map(({ ai }) => ai), ["01", "10", "17"]);
+  assert.throws(() => gs1.scanText(answer, "]E0"), { number: 40 });
+  assert.throws(() => gs1.link([{ ai: "10", value: "A" }]), { number: 40 });
+  assert.throws(() => gs1.link(answer, "https://x.de/?a"), { number: 40 });
+  assert.throws(() => gs1.link([{ ai: "01", value: "1" }]), { number: 6, place: 0 });
+  assert.throws(() => gs1.link(answer, 5), TypeError);
+});
+
+test("many texts", () => {
+  const told = gs1.readScans(["]C110AB", "]E09501101530004", "10AB\n17", ...Array(300).fill("]C110AB")], 2026);
+  assert.deepEqual(told.slice(0, 3).map(String), ["]C1 (10)AB", "Refusal: refused 3 CheckDigit", "Refusal: refused 40 Kind"]);
+  assert.ok(told.length === 303 && told[302]["10"].value === "AB" && told[1].remedy && told[1] instanceof Refusal);
+  assert.deepEqual(gs1.readGtins(["96385074", new TextEncoder().encode("9501101530003"), "9501101530003\r"]).map(String),
+    ["00000096385074", "09501101530003", "Refusal: refused 2 NotDigit 13"]);
 });
 
 test("element strings of elements", () => {

@@ -15,6 +15,8 @@ const image: Uint8Array = gs1.drawLabel("ean13", "9501101530003", { year: 2026, 
 const symbol: LabelSymbol = gs1.labelSymbol("upce", "00012345000065", 2026);
 const corners: readonly { x: number; y: number }[] = gs1.readPicture({ width: 1, height: 1, data: new Uint8ClampedArray(4) }, 2026, { level: 99 })[0]?.corners ?? [];
 const text: string = gs1.compose([["01", "09501101530003"], { ai: "10", value: "AB" }]);
+export const written: string[] = [gs1.scanText(answer, "]d2"), gs1.link(answer), gs1.link(elements, "https://x.de", 2026)];
+export const many: (string | undefined)[] = [...gs1.readScans(["]C110AB"], 2026), ...gs1.readGtins(["1"])].map((it) => (it instanceof Refusal || typeof it === "string" ? undefined : it.gtin));
 const told: string[] = gs1.conflicts(answer).map((it) => it.text);
 export const number: number | undefined = ((error: unknown) => (error instanceof Refusal ? error.number + error.before.length : undefined))(undefined);
 const pictured: Gs1Symbols = gs1.readPicture({ width: 1, height: 1, data: new Uint8ClampedArray(4) }, 2026);

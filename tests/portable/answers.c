@@ -117,6 +117,25 @@ static size_t row(uint16_t *widths) {
     return count;
 }
 
+/* What is written of an answer, and the answers to what was written as lines. */
+static void written(const struct gs1_answer *answer, uint16_t year, uint8_t *out, size_t room) {
+    struct gs1_answer lines[2];
+    size_t used = 0;
+    memset(lines, 0, sizeof lines);
+    memset(out, 0, GS1_LINE);
+    const size_t link = gs1_link(answer, (const uint8_t *)"https://id.gs1.org", 18, year, out, room - (room > 0));
+    answered(out, link, room);
+    if (link < room) {
+        out[link] = '\n';
+        const size_t count = gs1_read_messages(out, room, year, lines, 2, &used);
+        add(&(uint32_t){(uint32_t)count}, 4);
+        add(&(uint32_t){(uint32_t)used}, 4);
+        add(lines, sizeof lines);
+    }
+    memset(out, 0, GS1_LINE);
+    answered(out, gs1_scan_text(answer, (const uint8_t *)"]d2", 3, year, out, room), room);
+}
+
 int main(int argc, char **argv) {
     static uint8_t out[GS1_FOUND];
     const long questions = argc > 1 ? atol(argv[1]) : 1000;
@@ -141,6 +160,9 @@ int main(int argc, char **argv) {
             gs1_read_message(bytes, length, year, &answer);
         }
         add(&answer, sizeof answer);
+        if (i % 8 == 3) {
+            written(&answer, year, out, room);
+        }
         if (i % 64 == 0) {
             label();
         }

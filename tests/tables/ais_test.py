@@ -1,5 +1,7 @@
 """The table of AIs: the files that tables/ais writes of it, and what the script refuses."""
 
+from __future__ import annotations
+
 import os
 import subprocess
 import tempfile
@@ -29,17 +31,17 @@ WRONG = [
 ]
 
 
-def made(*words):
+def made(*words: str) -> tuple[int, str, str]:
     """What tables/ais says: its status, its output and its errors."""
     it = subprocess.run([os.path.join(ROOT, "tables", "ais"), "--check", *words], capture_output=True, text=True, timeout=60)
     return it.returncode, it.stdout, it.stderr
 
 
 class TableTest(unittest.TestCase):
-    def test_the_files_are_what_is_made(self):
+    def test_the_files_are_what_is_made(self) -> None:
         self.assertEqual(made(), (0, "", ""))
 
-    def test_what_is_refused(self):
+    def test_what_is_refused(self) -> None:
         with tempfile.TemporaryDirectory() as folder:
             path = os.path.join(folder, "ais.tsv")
             for line, said in WRONG:
@@ -48,7 +50,7 @@ class TableTest(unittest.TestCase):
                     file.close()
                     self.assertEqual(made("--table", path), (1, "", f"{path}:5: {said}\n"))
 
-    def test_a_line_that_does_not_end(self):
+    def test_a_line_that_does_not_end(self) -> None:
         with tempfile.NamedTemporaryFile("w", suffix=".tsv") as file:
             file.write(HEAD + GOOD.rstrip("\n"))
             file.flush()

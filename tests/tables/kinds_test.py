@@ -1,5 +1,7 @@
 """The lists of kinds that tables/kinds writes of tables/kinds.tsv, that another list is noticed, and the places that it prints."""
 
+from __future__ import annotations
+
 import contextlib
 import pathlib
 import shutil
@@ -7,6 +9,8 @@ import subprocess
 import sys
 import tempfile
 import unittest
+from pathlib import Path
+from typing import Iterator
 
 ROOT = pathlib.Path(__file__).resolve().parents[2]
 FILES = """
@@ -19,20 +23,20 @@ FILES = """
 JAN9 = "jan9\tJAN-9\t6\t]E9\t9\t70\t7\t7\tJAN9\tJAN-9\tJAN-9\t963850746\t(01)00000963850746\n"
 
 
-def read(file):
+def read(file: Path) -> str:
     return file.read_text(encoding="utf-8")
 
 
-def change(file, old, new):
+def change(file: Path, old: str, new: str) -> None:
     file.write_text(read(file).replace(old, new), encoding="utf-8")
 
 
 class KindsTest(unittest.TestCase):
-    def ran(self, root, *words):
+    def ran(self, root: Path, *words: str) -> subprocess.CompletedProcess[str]:
         return subprocess.run([sys.executable, root / "tables" / "kinds", *words], stdout=subprocess.PIPE, stderr=subprocess.PIPE, text=True, check=False)
 
     @contextlib.contextmanager
-    def copied(self):
+    def copied(self) -> Iterator[tuple[Path, Path]]:
         """A folder with the table and the files that have lists."""
         with tempfile.TemporaryDirectory() as name:
             copy = pathlib.Path(name)
@@ -41,14 +45,14 @@ class KindsTest(unittest.TestCase):
                 shutil.copy(ROOT / file, copy / file)
             yield copy, copy / "tables" / "kinds.tsv"
 
-    def has_all(self, root):
+    def has_all(self, root: Path) -> None:
         said = self.ran(root, "--check")
         self.assertEqual((said.returncode, said.stdout), (0, ""))
 
-    def test_the_files_have_them(self):
+    def test_the_files_have_them(self) -> None:
         self.has_all(ROOT)
 
-    def test_a_changed_kind_is_noticed_and_written(self):
+    def test_a_changed_kind_is_noticed_and_written(self) -> None:
         with self.copied() as (copy, table):
             change(table, "ean8\tEAN-8\t2\t]E4", "jan8\tJAN-8\t2\t]E3")
             said = self.ran(copy, "--check")
@@ -58,7 +62,7 @@ class KindsTest(unittest.TestCase):
             self.has_all(copy)
             self.assertIn("GS1_JAN8 = 2", read(copy / "crates" / "gs1_c" / "gs1.h"))
 
-    def test_nothing_is_written_if_a_list_is_not_there(self):
+    def test_nothing_is_written_if_a_list_is_not_there(self) -> None:
         with self.copied() as (copy, table):
             table.write_text(read(table) + JAN9, encoding="utf-8")
             change(copy / "npm" / "README.md", "in Node and in the browser: ", "")
@@ -68,12 +72,12 @@ class KindsTest(unittest.TestCase):
             self.assertIn("npm/README.md: 0 lists", said.stderr)
             self.assertEqual([read(copy / file) for file in FILES], before)
 
-    def test_places(self):
+    def test_places(self) -> None:
         said = self.ran(ROOT, "--places").stdout.splitlines()
         self.assertTrue(any(line.startswith("crates/sheet_core/src/kind.rt: ") for line in said))
         self.assertRegex(said[-1], r"^\d+ files, \d+ lines$")
 
-    def test_what_is_left_of_a_new_kind(self):
+    def test_what_is_left_of_a_new_kind(self) -> None:
         with self.copied() as (copy, table):
             table.write_text(read(table) + JAN9, encoding="utf-8")
             for words in ["init -q", "add ."]:

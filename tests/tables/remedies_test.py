@@ -1,5 +1,7 @@
 """The texts that tables/remedies writes of tables/remedies.tsv, that others are noticed, and what the script refuses."""
 
+from __future__ import annotations
+
 import json
 import pathlib
 import shutil
@@ -7,6 +9,7 @@ import subprocess
 import sys
 import tempfile
 import unittest
+from pathlib import Path
 
 ROOT = pathlib.Path(__file__).resolve().parents[2]
 FILES = ["docs/FAULTS.md", "shop/en.json", "shop/de.json", "crates/gs1_hub/src/remedies.rt"]
@@ -27,7 +30,7 @@ WRONG = [
 ]
 
 
-def copied(folder):
+def copied(folder: str) -> Path:
     """A copy of the files that the script reads and writes."""
     copy = pathlib.Path(folder)
     for file in [*FILES, NAMES, "tables/remedies", "tables/remedies.tsv"]:
@@ -37,19 +40,19 @@ def copied(folder):
 
 
 class RemediesTest(unittest.TestCase):
-    def ran(self, root, *words):
+    def ran(self, root: Path, *words: str) -> subprocess.CompletedProcess[str]:
         return subprocess.run([sys.executable, root / "tables" / "remedies", *words], capture_output=True, text=True, check=False)
 
-    def replace(self, path, old, new):
+    def replace(self, path: Path, old: str, new: str) -> None:
         text = path.read_text(encoding="utf-8")
         self.assertTrue(old in text, old)
         path.write_text(text.replace(old, new), encoding="utf-8")
 
-    def test_the_files_have_them(self):
+    def test_the_files_have_them(self) -> None:
         said = self.ran(ROOT, "--check")
         self.assertEqual((said.returncode, said.stdout, said.stderr), (0, "", ""))
 
-    def test_a_changed_remedy_is_noticed_and_written(self):
+    def test_a_changed_remedy_is_noticed_and_written(self) -> None:
         with tempfile.TemporaryDirectory() as name:
             copy = copied(name)
             table = copy / "tables" / "remedies.tsv"
@@ -67,7 +70,7 @@ class RemediesTest(unittest.TestCase):
             self.assertIn('"]I2": "itfDigit"', (copy / NAMES).read_text(encoding="utf-8"))
             self.assertIn('"the field was left empty: type a text",', (copy / FILES[3]).read_text(encoding="utf-8"))
 
-    def test_each_file_is_compared(self):
+    def test_each_file_is_compared(self) -> None:
         for file in [*FILES, NAMES]:
             with self.subTest(file), tempfile.TemporaryDirectory() as name:
                 copy = copied(name)
@@ -75,13 +78,13 @@ class RemediesTest(unittest.TestCase):
                 said = self.ran(copy, "--check")
                 self.assertEqual((said.returncode, said.stdout), (1, f"{file}: its remedies are not those of tables/remedies.tsv\n"))
 
-    def test_how_the_source_breaks_its_lines_is_free(self):
+    def test_how_the_source_breaks_its_lines_is_free(self) -> None:
         with tempfile.TemporaryDirectory() as name:
             copy = copied(name)
             self.replace(copy / FILES[3], "left empty: type", "left empty: \\\n         type")
             self.assertEqual(self.ran(copy, "--check").returncode, 0)
 
-    def test_the_files_of_the_libraries(self):
+    def test_the_files_of_the_libraries(self) -> None:
         with tempfile.TemporaryDirectory() as name:
             folder = pathlib.Path(name)
             for file in ["it.json", "it.js"]:
@@ -91,7 +94,7 @@ class RemediesTest(unittest.TestCase):
             self.assertEqual((told["causes"]["addOn"], told["identifiers"]["]E3"], told["identifiers"].get("]A0")), ("EAN or UPC with an add-on", "addOn", None))
             self.assertIn('\n  "4": "there is no text: type it",\n', (folder / "it.js").read_text(encoding="utf-8"))
 
-    def test_what_is_refused(self):
+    def test_what_is_refused(self) -> None:
         for old, new, line in WRONG:
             with self.subTest(old), tempfile.TemporaryDirectory() as name:
                 copy = copied(name)

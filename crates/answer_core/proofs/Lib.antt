@@ -1,6 +1,19 @@
 -- Lemmas of this crate.
 pub mod Adding
+pub mod CodedTexts
+pub mod Codes
+pub mod Cuts
+pub mod Ends
 pub mod Formats
+pub mod GapFacts
+pub mod LineByLine
+pub mod LinkReads
+pub mod MarkFacts
+pub mod MovedPlaces
+pub mod Moves
+pub mod PrintedFacts
 pub mod PutFacts
+pub mod ScanReads
 pub mod ShortPlaces
+pub mod SolidFacts
 pub mod Standing

@@ -5,4 +5,6 @@ pub mod Codes
 pub mod Conflicts
 pub mod Formats
 pub mod Numbers
+pub mod Pairs
 pub mod Places
+pub mod Written

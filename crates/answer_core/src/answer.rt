@@ -101,15 +101,19 @@ impl Answer {
         self.refuse(refusal);
     }
 
+    /// Writes that a text or a line is none, and no symbol.
+    pub(crate) fn tell_nothing(&mut self, kind: RefusalKind)
+        ensures { TellsNothing kind self.new }
+    {
+        self.name(SymbolKind::Unknown, [0; 4]);
+        self.refuse(Refusal { kind, place: None });
+    }
+
     /// Writes that there are no terms: the year is no reference year.
     pub fn refuse_terms(&mut self)
         ensures { TellsNothing refusal.Words self.new }
     {
-        self.name(SymbolKind::Unknown, [0; 4]);
-        self.refuse(Refusal {
-            kind: RefusalKind::Words,
-            place: None,
-        });
+        self.tell_nothing(RefusalKind::Words);
     }
 
     /// Writes elements, their days under the terms.

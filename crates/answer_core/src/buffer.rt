@@ -1,6 +1,10 @@
 //! Bytes into a caller's buffer.
 ghost use Rattle.std.specs.Prelude.{◌∷◌, ◌++◌};
 ghost use Rattle.digits_core.specs.Buffers.{IsPut};
+ghost use Rattle.digits_core.specs.Refusals.{refusal_text};
+
+use digits_core::{Refusal, put_at};
+use itoa::Buffer;
 
 /// Puts bytes at the front of `out` if it has room for them all, and says how many they are.
 pub fn put(bytes: &[u8], out: &mut [u8]) -> usize
@@ -24,4 +28,30 @@ pub fn put_words(first: &[u8], second: &[u8], out: &mut [u8]) -> usize
         out[space + 1..count].copy_from_slice(second);
     }
     count
+}
+
+/// The same of two texts, one right behind the other.
+pub fn put_both(first: &[u8], second: &[u8], out: &mut [u8]) -> usize
+    ensures { IsPut (first.now ++ second.now) out.old out.new result }
+{
+    let count = first.len() + second.len();
+    if count <= out.len() {
+        let middle = put_at(first, 0, out);
+        put_at(second, middle, out);
+    }
+    count
+}
+
+/// The same of a refusal: its number and name, and its place if it has one.
+pub fn put_refusal(refusal: Refusal, out: &mut [u8]) -> usize
+    ensures { IsPut (refusal_text refusal.kind refusal.place) out.old out.new result }
+{
+    let words = refusal.kind.words().as_bytes();
+    match refusal.place {
+        None => put(words, out),
+        Some(place) => {
+            let mut digits = Buffer::new();
+            put_words(words, digits.format(place).as_bytes(), out)
+        }
+    }
 }

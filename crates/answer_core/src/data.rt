@@ -1,43 +1,22 @@
 //! Lines of answers, read back.
-ghost use Rattle.std.specs.Prelude.{◌≡◌, ◌≤◌, ◌+◌, IfSome, length, true};
+ghost use Rattle.std.specs.Prelude.{◌≡◌, ◌≤◌, IfSome, true};
 ghost use Rattle.digits_core.specs.declared.refusal.RefusalKind.TheVariants as refusal;
+ghost use Rattle.element_core.specs.Pairs.{entry_of};
 ghost use Rattle.element_core.specs.declared.form.Form.TheVariants as form;
+ghost use Rattle.message_core.specs.Links.{fits_entry};
 ghost use Rattle.answer_core.specs.Formats.{format_text};
 ghost use Rattle.answer_core.specs.Answers.{IsError, TellsNothing};
 ghost use Rattle.answer_core.specs.Reads.{IsAnswerBy, IsDataAnswer};
 
 use crate::answer::{Answer, NO_GTIN, NO_PLACE};
-use crate::place::MOST_ELEMENTS;
+use crate::cut::cut;
+use crate::pairs::{Pairs, put_pair, text_of};
 use crate::symbol::{SymbolKind, as_four, identified_symbol};
-use digits_core::{Refusal, RefusalKind};
-use element_core::{Elements, Form, Pair, Text, Year};
-use std::array;
+use digits_core::RefusalKind;
+use element_core::{Elements, Form, Pair, Year};
 
 /// The most bytes of a line that an answer has which a call fills.
 const MOST_LINE: usize = 292;
-
-/// The index of the first such byte, or the number of bytes.
-fn index_of(byte: u8, bytes: &[u8]) -> usize
-    ensures { result ≤ length bytes.now }
-{
-    for (i, b) in bytes.iter().enumerate() {
-        if *b == byte {
-            return i;
-        }
-    }
-    bytes.len()
-}
-
-/// What stands before the first such byte and what stands behind it, if there is one.
-fn cut(byte: u8, bytes: &[u8]) -> Option<(&[u8], &[u8])>
-    ensures { IfSome result (λ r. length r.0.now + length r.1.now + 1 ≡ length bytes.now) }
-{
-    let index = index_of(byte, bytes);
-    if index == bytes.len() {
-        return None;
-    }
-    Some((&bytes[..index], &bytes[index + 1..]))
-}
 
 /// The number of these digits, if it is below 65,535.
 fn number_of(digits: &[u8]) -> Option<u16> {
@@ -65,17 +44,10 @@ fn error_of(words: &[u8]) -> Option<(u16, u16)> {
     Some((number_of(number)?, place))
 }
 
-/// A text of these bytes, if they are not too many.
-fn text_of(bytes: &[u8]) -> Option<Text> {
-    let mut text = Text::new();
-    match text.try_extend_from_slice(bytes) {
-        Ok(()) => Some(text),
-        Err(_) => None,
-    }
-}
-
 /// The pair of a field: what stands before its first `=`, and what stands behind it.
-fn pair_of(field: &[u8]) -> Option<Pair> {
+fn pair_of(field: &[u8]) -> Option<Pair>
+    ensures { IfSome result (λ p. fits_entry (entry_of p) ≡ true) }
+{
     let (ai, value) = cut(b'=', field)?;
     Some(Pair {
         ai: text_of(ai)?,
@@ -83,36 +55,20 @@ fn pair_of(field: &[u8]) -> Option<Pair> {
     })
 }
 
-/// Pairs, at most as many as an answer has elements.
-#[derive(Drop)]
-struct Pairs {
-    items: [Pair; MOST_ELEMENTS],
-    count: usize,
-}
-
 /// The pairs of fields between tabs, if they are pairs and not too many.
-fn pairs_of(fields: &[u8]) -> Option<Pairs>
-    ensures { IfSome result (λ pairs. pairs.count ≤ 48) }
-{
-    let mut items = array::from_fn(|_| Pair {
-        ai: Text::new(),
-        value: Text::new(),
-    });
-    let mut count = 0;
+fn pairs_of(fields: &[u8]) -> Option<Pairs> {
+    let mut pairs = Pairs::new();
     let mut rest = fields;
     while let Some((field, more)) = cut(b'\t', rest) {
-        if count >= MOST_ELEMENTS - 1 {
+        if !put_pair(&mut pairs, pair_of(field)) {
             return None;
         }
-        items[count] = pair_of(field)?;
-        count += 1;
         rest = more;
     }
-    items[count] = pair_of(rest)?;
-    Some(Pairs {
-        items,
-        count: count + 1,
-    })
+    if !put_pair(&mut pairs, pair_of(rest)) {
+        return None;
+    }
+    Some(pairs)
 }
 
 impl Answer {
@@ -120,11 +76,7 @@ impl Answer {
     fn refuse_line(&mut self)
         ensures { TellsNothing refusal.Kind self.new }
     {
-        self.name(SymbolKind::Unknown, [0; 4]);
-        self.refuse(Refusal {
-            kind: RefusalKind::Kind,
-            place: None,
-        });
+        self.tell_nothing(RefusalKind::Kind);
     }
 
     /// Writes an error.
@@ -156,7 +108,7 @@ impl Answer {
         let Some(pairs) = pairs_of(said) else {
             return self.refuse_line();
         };
-        match &Elements::of_pairs(&pairs.items[..pairs.count], terms) {
+        match &Elements::of_pairs(pairs.as_slice(), terms) {
             Ok(elements) => {
                 let identifier = as_four(word);
                 self.name(identified_symbol(identifier, elements.bytes()), identifier);

@@ -214,7 +214,7 @@ fn word_of(identifier: &[u8]) -> &[u8]
 }
 
 /// Puts an error's words into `out`, and its place if it has one.
-fn put_fault(fault: u16, place: u16, out: &mut [u8]) -> usize
+pub(crate) fn put_fault(fault: u16, place: u16, out: &mut [u8]) -> usize
     ensures { IsPut (placed_words (fault_words (refusal_numbered fault)) place) out.old out.new result }
 {
     let words = match refusal_numbered(fault) {

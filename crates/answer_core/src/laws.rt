@@ -1,5 +1,9 @@
 //! Laws of the definitions: each function does nothing, and its contract is the law.
-ghost use Rattle.answer_core.specs.Laws.{AnswersTellOne, LinesTell, MessageLines, RefusedLines, RowLines, StringLines};
+ghost use Rattle.answer_core.specs.Laws.{AnswersTellOne, LinesTell, LinkReads, MessageLines, RefusedLines, RowLines, ScanReads, StringLines};
+ghost use Rattle.answer_core.specs.Texts.{OnePrintedLine, PrintedRead};
+
+use element_core::faultless_pairs;
+use message_core::{codes_are_read, key_part_is};
 
 /// An answer tells one list of elements.
 pub fn answers_tell_one()
@@ -26,7 +30,30 @@ pub fn string_lines()
     ensures { StringLines }
 {}
 
+/// The text that a scanner sends of elements is read as these elements behind its identifier.
+pub fn scan_reads()
+    ensures { ScanReads }
+{
+    faultless_pairs();
+}
+
+/// The link of elements is read as the same elements, each as often.
+pub fn link_reads()
+    ensures { LinkReads }
+{
+    codes_are_read();
+    key_part_is();
+}
+
 /// The line of the answer to a row is the line of the row.
 pub fn row_lines()
     ensures { RowLines }
 {}
+
+/// What is printed of elements is read as these elements, unless a value has an AI of the table in parentheses.
+pub fn printed_is_read()
+    ensures read { PrintedRead }
+    ensures one { OnePrintedLine }
+{
+    faultless_pairs();
+}

@@ -5,25 +5,36 @@ mod answer;
 mod association;
 mod buffer;
 mod code;
+mod coded;
 mod conflict;
+mod cut;
 mod data;
 mod format;
+mod gap;
 mod gtin;
 mod laws;
+mod lines;
 mod listed;
 mod named;
 mod number;
+mod order;
+mod pairs;
 mod place;
+mod printed;
 mod read;
 mod row;
 mod symbol;
+mod text;
+mod writing;
 
 pub use answer::Answer;
-pub use buffer::{put, put_words};
+pub use buffer::{put, put_both, put_refusal, put_words};
 pub use conflict::{Conflict, ConflictKind};
 pub use laws::{
-    answers_tell_one, lines_tell, message_lines, refused_lines, row_lines, string_lines,
+    answers_tell_one, lines_tell, link_reads, message_lines, printed_is_read, refused_lines,
+    row_lines, scan_reads, string_lines,
 };
+pub use lines::{Answered, LineKind, read_lines};
 pub use named::Day;
 pub use place::{MOST_ELEMENTS, Place};
 pub use row::dots_in;

@@ -7,7 +7,7 @@ use jiff::civil::Date;
 
 /// A day, or three zeros.
 #[repr(C)]
-#[derive(Clone, Copy)]
+#[derive(Clone, Copy, Default)]
 pub struct Day {
     pub year: u16,
     /// 1 to 12.

@@ -19,7 +19,7 @@ const NONE: u8 = 255;
 
 /// Where an element stands in the text of its answer, and the days and the time that it names.
 #[repr(C)]
-#[derive(Clone, Copy)]
+#[derive(Clone, Copy, Default)]
 pub struct Place {
     /// The index of its AI's first byte.
     pub ai: u8,

@@ -2,18 +2,35 @@
 ghost use Rattle.std.specs.Prelude.{◌≤◌, List, ℕ, length};
 ghost use Rattle.digits_core.specs.Buffers.{IsPut};
 ghost use Rattle.gs1_c.specs.Lines.{IsDotsLine, IsRowLine, IsTextLine};
+ghost use Rattle.gs1_c.specs.inner.Lines.{IsFoundLine};
 
-use crate::value::{gs1_c_read_dots, gs1_c_read_elements, gs1_c_read_row};
+use crate::buffer::{put_line, put_refusal, put_refused};
+use crate::terms::terms_of;
+use crate::value::{gs1_c_read_dots, gs1_c_read_elements};
 use answer_core::Answer;
-use element_core::Form;
+use digits_core::RefusalKind;
+use element_core::{Form, Year};
+use scan_core::{Found, RunFault, find_widths};
+
+/// Puts the line of what was found in a row, with its elements in a form, or why there is no row. It is written from what was found, since a
+/// struct takes more time.
+fn put_found(found: &Result<Found, RunFault>, terms: Year, form: Form, out: &mut [u8]) -> usize
+    ensures { (line : List ℕ) × IsFoundLine form terms found.now line × IsPut line out.old out.new result }
+{
+    match found {
+        Ok(found) => put_line(&found.line(terms, form), out),
+        Err(fault) => put_refusal(fault.refusal(), out),
+    }
+}
 
 /// Puts the line of what a row says, given as widths, with its elements in a form.
 pub fn put_row(widths: &[u16], year: u16, form: Form, out: &mut [u8]) -> usize
     ensures { (line : List ℕ) × IsRowLine form year widths.now line × IsPut line out.old out.new result }
 {
-    let mut answer = Answer::new();
-    gs1_c_read_row(widths, year, &mut answer);
-    answer.put_line(form, out)
+    let Some(terms) = terms_of(year) else {
+        return put_refused(RefusalKind::Words, out);
+    };
+    put_found(&find_widths(widths), terms, form, out)
 }
 
 /// The same of a row of packed dots.

@@ -1,32 +1,18 @@
 //! Lines into a caller's buffer.
 ghost use Rattle.digits_core.specs.Buffers.{IsPut};
-ghost use Rattle.digits_core.specs.Refusals.{refusal_text, refusal_words};
+ghost use Rattle.digits_core.specs.Refusals.{refusal_words};
 ghost use Rattle.element_core.specs.Lines.{line_text};
 
+pub use answer_core::put_refusal;
 use answer_core::{put, put_words};
-use digits_core::{Refusal, RefusalKind};
+use digits_core::RefusalKind;
 use element_core::Line;
-use itoa::Buffer;
 
 /// Puts a refusal that has no place at the front of `out` if it has room for it, and says how many bytes it has.
 pub fn put_refused(kind: RefusalKind, out: &mut [u8]) -> usize
     ensures { IsPut (refusal_words kind) out.old out.new result }
 {
     put(kind.words().as_bytes(), out)
-}
-
-/// The same of a refusal.
-pub fn put_refusal(refusal: Refusal, out: &mut [u8]) -> usize
-    ensures { IsPut (refusal_text refusal.kind refusal.place) out.old out.new result }
-{
-    let words = refusal.kind.words().as_bytes();
-    match refusal.place {
-        None => put(words, out),
-        Some(place) => {
-            let mut digits = Buffer::new();
-            put_words(words, digits.format(place).as_bytes(), out)
-        }
-    }
 }
 
 /// The same of a line.

@@ -24,6 +24,7 @@ ghost use Rattle.gs1_c.specs.Symbols.{IsSymbolLineBy};
 ghost use Rattle.gs1_c.specs.Titles.{title_of};
 
 mod answer;
+mod batch;
 mod buffer;
 mod dates;
 mod drawing;
@@ -39,6 +40,7 @@ mod terms;
 mod tests;
 mod titles;
 mod value;
+mod writing;
 
 use answer::{put_dots, put_row, put_text};
 use answer_core::{Answer, put};

@@ -8,6 +8,7 @@ ghost use Rattle.answer_core.specs.Conflicts.{conflicts};
 ghost use Rattle.answer_core.specs.Formats.{entries_in};
 ghost use Rattle.answer_core.specs.Reads.{IsDataAnswer, IsGtinAnswer, IsMessageAnswer, IsStringAnswer};
 ghost use Rattle.answer_core.specs.Rows.{IsDotsAnswer, IsWidthsAnswer};
+ghost use Rattle.answer_core.specs.Texts.{IsTextAnswer};
 ghost use Rattle.digits_core.specs.Buffers.{IsPut};
 ghost use Rattle.gs1_c.specs.Values.{IsAnsweredBy, form_numbered, line_by};
 
@@ -52,6 +53,20 @@ pub extern "C" fn gs1_c_read_gtin(digits: &[u8], year: u16, answer: &mut Answer)
 {
     match terms_of(year) {
         Some(terms) => answer.read_gtin(digits, terms),
+        None => answer.refuse_terms(),
+    }
+    u32::from(answer.fault)
+}
+
+/// What a text says as people type, print and paste it, in UTF-8: a printed element string with each AI in parentheses or
+/// brackets, what a scanner sends, an element string with a separator, or a number with blanks and hyphens.
+#[unsafe(no_mangle)]
+pub extern "C" fn gs1_c_read_text(text: &[u8], year: u16, answer: &mut Answer) -> u32
+    ensures told { IsAnsweredBy year (λ terms a. IsTextAnswer terms text.now a) answer.new }
+    ensures fault { result ≡ answer.new.fault }
+{
+    match terms_of(year) {
+        Some(terms) => answer.read_text(text, terms),
         None => answer.refuse_terms(),
     }
     u32::from(answer.fault)

@@ -3,7 +3,7 @@ ghost use Rattle.std.specs.Prelude.{◌≡◌, ◌<◌, IfSome};
 ghost use Rattle.message_core.specs.Keys.{cpid_place, gsrn_place, gtin_place, is_key, itip_place, location_place, payment_place, place_by, production_place};
 
 /// Whether an AI is a primary key (GS1 Digital Link: URI syntax, section 4.2).
-pub(crate) fn is_key(ai: &[u8]) -> bool
+pub fn is_key(ai: &[u8]) -> bool
     ensures { result ≡ is_key ai.now }
 {
     match ai {
@@ -110,8 +110,9 @@ fn gsrn_place(ai: &[u8]) -> Option<u8>
     }
 }
 
-/// The place of a qualifier among those of a key: they stand in this order, and none must be there.
-pub(crate) fn place_by(key: &[u8], ai: &[u8]) -> Option<u8>
+/// The place of a qualifier among those of a key, 0 to 3: they stand in this order, and none must be there (GS1 Digital Link: URI
+/// syntax, section 4.5).
+pub fn place_by(key: &[u8], ai: &[u8]) -> Option<u8>
     ensures value { result ≡ place_by key.now ai.now }
     ensures few { IfSome result (λ place. place < 4) }
 {

@@ -18,10 +18,12 @@ mod upce;
 
 pub use fault::MessageFault;
 pub use head::{Head, is_message};
+pub use key::{is_key, place_by};
 pub use laws::{
     codes_are_read, key_part_is, one_message, one_message_line, pairs_say_elements,
     upce_is_expanded,
 };
+pub use link::is_uri;
 pub use message::{Message, message_line, read_message};
 pub use spelling::read_spelled;
 pub use symbology::Symbology;

@@ -151,8 +151,8 @@ fn path_of(text: &[u8]) -> &[u8]
     without_slash(behind(b'/', host_and_path(text)))
 }
 
-/// Whether a text is a URI of the web, with a host and a plain query.
-fn is_uri(text: &[u8]) -> bool
+/// Whether a text is a URI of the web (RFC 3986), with a host and a plain query: no `;` in it, and no `%` in its names.
+pub fn is_uri(text: &[u8]) -> bool
     ensures { result ≡ is_uri text.now }
 {
     begins_link(text) && is_written(text) && has_host(text) && is_plain(query_of(text))

@@ -12,6 +12,7 @@ currency. --strict refuses such a line.
 
   $ noriladle check supplier.csv
   $ noriladle check supplier.csv --fix -o fixed.csv
+  $ noriladle check supplier.csv --link https://id.gs1.org
 """
 from __future__ import annotations
 
@@ -23,7 +24,7 @@ from functools import reduce
 from pathlib import Path
 from typing import Any, Dict, Iterable, Iterator, List, NamedTuple, Optional, Tuple
 
-from .. import Ais, Answer, Conflict, Refusal, _gtins, conflicts
+from .. import Ais, Answer, Conflict, Element, Refusal, _gtins, conflicts
 from .._columns import Table, table_of
 from .._lists import Faults, Record
 from .._plain import blocks_of, is_plain
@@ -47,6 +48,7 @@ def add_arguments(parser: argparse.ArgumentParser) -> None:
     parser.add_argument("--refused", action="store_true", help="Print only the lines that are refused")
     parser.add_argument("--strict", action="store_true",
                         help="Refuse what is a warning otherwise")
+    parser.add_argument("--link", metavar="STEM", help="Print the GS1 Digital Link of each text too, with this beginning")
     parser.add_argument("--json", action="store_true", help="Print a JSON object for each line")
     add_year(parser)
     add_ais(parser)
@@ -72,11 +74,13 @@ def run(words: argparse.Namespace) -> int:
     """Prints what each line of the list says."""
     if words.fix != bool(words.output):
         raise WrongWords(translated("--fix and -o FILE go together: write both, as in --fix -o fixed.csv"))
+    if words.link and not _link_of(Answer(None, (Element("01", _ZEROS),)), words):
+        raise WrongWords(translated("--link takes the beginning of a web address, as https://id.gs1.org"))
     name, columns, progress, count, refused = name_of(words), columns_of(words), Progress(), 0, 0
     try:
         with file_of(words) as file:
             data = first_of(words, file)
-            if not (words.fix or columns or words.encoding) and is_plain(data, words.year):
+            if not (words.fix or columns or words.encoding or words.link) and is_plain(data, words.year):
                 printed = _printed_plain(blocks_of(data, file), words)
             else:
                 table = table_of(data, words.year, columns, words.encoding or "")
@@ -116,7 +120,8 @@ def _printed(checked: Checked, words: argparse.Namespace) -> _Printed:
     is_refused = not checked.answer or words.strict and bool(checked.found)
     if words.refused and not is_refused:
         return _Printed(checked.line, "", 1, 0)
-    row = json.dumps(_data(checked), ensure_ascii=False) if words.json else _row(checked, "refused" if is_refused else "warning")
+    link = _link_of(checked.answer, words) if checked.answer and words.link else None
+    row = json.dumps(_data(checked, link), ensure_ascii=False) if words.json else _row(checked, "refused" if is_refused else "warning", link)
     return _Printed(checked.line, f"{row}\n", 1, is_refused)
 
 
@@ -192,12 +197,20 @@ def _checked(line: int, text: str, is_string: bool, year: int, ais: Ais) -> Chec
         return Checked(line, text, None, refusal, str(advice), advice.fixes)
 
 
-def _row(checked: Checked, found: str) -> str:
-    """The cells of a line, with tabs between, and this word before what is found in an answer."""
+def _link_of(answer: Answer, words: argparse.Namespace) -> str:
+    """The link of an answer; empty if it has no key."""
+    try:
+        return answer.link(words.link, words.year)
+    except Refusal:
+        return ""
+
+
+def _row(checked: Checked, found: str, link: Optional[str]) -> str:
+    """The cells of a line, with tabs between: the link if one is asked for, and this word before what is found in an answer."""
     text = " ".join(checked.text.replace("\x1d", "^").split())
     if checked.answer:
         identifier = checked.answer.identifier
-        said = f"\t{found}: {'; '.join(map(_words, checked.found))}" if checked.found else ""
+        said = ("" if link is None else f"\t{link}") + (f"\t{found}: {'; '.join(map(_words, checked.found))}" if checked.found else "")
         return f"{checked.line}\t{text}\t{f'{identifier} ' if identifier else ''}{checked.answer.text}{said}"
     article = f"\t{checked.article}" if checked.article else ""
     return f"{checked.line}\t{text}\t{checked.refusal}\t{checked.remedy}{article}"
@@ -219,10 +232,10 @@ def _named(checked: Checked) -> str:
     return f"{shown}: " if checked.text else ""
 
 
-def _data(checked: Checked) -> Dict[str, Any]:
+def _data(checked: Checked, link: Optional[str]) -> Dict[str, Any]:
     data: Dict[str, Any] = {"line": checked.line, "text": checked.text, **({"article": checked.article} if checked.article else {})}
     if checked.answer:
-        return {**data, **data_of(checked.answer), **({"conflicts": [str(it) for it in checked.found]} if checked.found else {})}
+        return {**data, **data_of(checked.answer), **({"link": link} if link else {}), **({"conflicts": [str(it) for it in checked.found]} if checked.found else {})}
     refusal = checked.refusal
     assert refusal, "what is not read is refused"
     return {**data, "refused": refusal.number, "name": refusal.name, "place": refusal.place, "remedy": checked.remedy, "fixes": list(checked.fixes)}

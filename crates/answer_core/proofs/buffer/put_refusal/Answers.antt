@@ -1,7 +1,7 @@
 use Rattle.std.proofs.Common.{◌∙◌, ◌++◌, ◌∷◌, List, ap, ap₂, subst, sym, ℕ}
 use Rattle.digits_core.specs.Buffers.{IsPut}
 use Rattle.digits_core.specs.Refusals.{refusal_text}
-use Rattle.gs1_c.proofs.buffer.put_refusal.Goals as goal
+use Rattle.answer_core.proofs.buffer.put_refusal.Goals as goal
 
 pub returns-in-Some : goal.returns-in-Some
 returns-in-Some c =
