@@ -11,7 +11,7 @@ import time
 from typing import AsyncIterator, Awaitable, Callable, Dict, List, Optional, Protocol, Set, Tuple
 
 from ._door import Place, Places
-from ._health import Metrics
+from ._health import Answers, Metrics
 from ._journal import Scan
 from ._log import Log
 from ._rights import Rights, all_rights, name_of_token, unix_names, unix_peer
@@ -305,8 +305,7 @@ class Gateway:
 
     def _name_metrics(self) -> None:
         of = self.metrics
-        self._answers = of.counter("noriladle_answers_total", "Rows and texts that were answered, refusals among them.")
-        self._refusals = of.counter("noriladle_refusals_total", "Rows and texts that were refused, by the number of the refusal.", "number")
+        self._answers = Answers(of)
         self._took = of.histogram("noriladle_answer_seconds", "How long the hub took for an answer.")
         self._closed = of.counter("noriladle_closed_total", "Connections that the gateway closed.")
         of.gauge("noriladle_connections", "Connections.", lambda: self.places.taken)
@@ -335,10 +334,8 @@ class Gateway:
 
     def seen(self, said: str, seconds: float) -> None:
         """Counts an answer, and how long it took."""
-        self._answers.add()
+        self._answers.add(said)
         self._took.see(seconds)
-        if said.startswith("refused "):
-            self._refusals.add(said.split(" ")[1])
 
     async def trip(self) -> str:
         """Has a scan of its own answered by the hub. Returns why it was not, or nothing."""

@@ -7,7 +7,7 @@ import importlib
 import re
 from bisect import bisect_left
 from itertools import accumulate
-from typing import Any, Awaitable, Callable, Dict, Iterator, List, Mapping, Tuple, Union
+from typing import Any, Awaitable, Callable, Dict, Iterator, List, Mapping, Optional, Tuple, Union
 
 from . import __version__
 from ._log import lines_dropped
@@ -110,6 +110,22 @@ def _by_labels(value: Value) -> Dict[Labels, float]:
     return {(label,): number for label, number in value.items()} if isinstance(value, Mapping) else {(): value}
 
 
+class Answers:
+    """How many answers a service has given, and how many of them were refusals, by their number."""
+
+    def __init__(self, metrics: Metrics) -> None:
+        self._answers = metrics.counter("noriladle_answers_total", "Rows and texts that were answered, refusals among them.")
+        self._refusals = metrics.counter(
+            "noriladle_refusals_total", "Rows and texts that were refused, by the number of the refusal.", "number")
+
+    def add(self, *answers: str) -> None:
+        """Counts some answers."""
+        self._answers.add(by=len(answers))
+        for said in answers:
+            if said.startswith("refused "):
+                self._refusals.add(said.split(" ")[1])
+
+
 class Health:
     """Whether a service works: it makes a round trip of its own, each second and whenever somebody asks.
 
@@ -137,11 +153,13 @@ class Health:
             await asyncio.sleep(PATIENCE)
 
 
-async def serve(port: int, health: Health, metrics: Metrics, fault: Callable[[str], None] = lambda said: None) -> asyncio.AbstractServer:
-    """Serves ``/healthz``, ``/readyz`` (503 with the reason while it is not) and ``/metrics`` on a port of 127.0.0.1.
-
-    :raises OSError: the port is taken.
-    """
+async def serve(
+    port: Optional[int], health: Health, metrics: Metrics, fault: Callable[[str], None] = lambda said: None
+) -> List[asyncio.AbstractServer]:
+    """Serves ``/healthz``, ``/readyz`` (503 with the reason while it is not) and ``/metrics`` on a port of 127.0.0.1, if there is
+    one. That it is taken is a fault to report, and stops no service."""
+    if port is None:
+        return []
     try:
         importlib.import_module("prometheus_client")  # Now: later it would hold up the lanes.
     except ImportError:
@@ -159,7 +177,11 @@ async def serve(port: int, health: Health, metrics: Metrics, fault: Callable[[st
         clients -= 1
         writer.close()
 
-    return await asyncio.start_server(connected, "127.0.0.1", port, limit=_HEAD)
+    try:
+        return [await asyncio.start_server(connected, "127.0.0.1", port, limit=_HEAD)]
+    except OSError as taken:
+        fault(f"no metrics: --metrics {port}: {taken.strerror}")
+        return []
 
 
 async def _answer(head: bytes, health: Health, metrics: Metrics) -> bytes:

@@ -7,17 +7,18 @@ import contextlib
 import difflib
 import os
 import re
+import signal
 import socket
 import sys
-from typing import Any, Callable, Dict, Optional, Sequence, Union
+from typing import Any, AsyncIterator, Awaitable, Callable, Coroutine, Dict, Optional, Sequence, Union
 
 if sys.version_info >= (3, 11):
     import tomllib
 else:
     import tomli as tomllib
 
-from ._log import Log as Log
-from .commands import WrongWords
+from ._log import Log as Log, take_libraries
+from .commands import WrongWords, add_ais, add_year
 
 Loaded = Dict[str, object]
 """The values of an option file, by their names in :mod:`argparse`."""
@@ -47,7 +48,10 @@ def add_config(parser: argparse.ArgumentParser) -> None:
 
 
 def add_arguments(parser: argparse.ArgumentParser) -> None:
-    """Adds the options that all services have."""
+    """Adds the options that all services with a hub have."""
+    parser.add_argument("--workers", type=count(1, 16), default=2, metavar="N", help="Workers of the hub, 1 to 16 [default: 2]")
+    add_year(parser)
+    add_ais(parser)
     add_config(parser)
     parser.add_argument("--log", choices=("faults", "all"), default="faults", metavar="WHAT",
                         help="Log faults, or all: connections, takeovers and refused senders too [default: faults]")
@@ -168,6 +172,14 @@ def keep_buffers() -> None:
     bytes(1 << 20)
 
 
+def run(words: argparse.Namespace, serve: Callable[[argparse.Namespace, Log], Coroutine[Any, Any, int]]) -> int:
+    """Runs a service with its log, and returns its status."""
+    keep_buffers()
+    log = Log(words.log, words.json)
+    take_libraries(log)
+    return asyncio.run(serve(words, log))
+
+
 def notify(said: str) -> None:
     """Sends systemd a message such as ``READY=1``, if it waits for one."""
     address = os.environ.get("NOTIFY_SOCKET", "")
@@ -176,6 +188,12 @@ def notify(said: str) -> None:
             to.settimeout(0.1)  # systemd may be busy; a service does not wait for it.
             to.connect("\0" + address[1:] if address.startswith("@") else address)
             to.sendall(said.encode())
+
+
+def when_told_to_stop(call: Callable[..., object], *words: object) -> None:
+    """Has SIGTERM and SIGINT call something, and not end the process."""
+    for number in (signal.SIGTERM, signal.SIGINT):
+        asyncio.get_running_loop().add_signal_handler(number, call, *words)
 
 
 def watchdog() -> Optional[float]:
@@ -192,3 +210,16 @@ async def keep_alive(is_well: Callable[[], Any]) -> None:
         await is_well()
         notify("WATCHDOG=1")
         await asyncio.sleep(most / 3)
+
+
+@contextlib.asynccontextmanager
+async def at_work(is_well: Callable[[], Any], *beside: Awaitable[Any]) -> AsyncIterator[None]:
+    """Tells systemd that a service is ready, lives, and at the end of the block that it stops. Meanwhile other coroutines run."""
+    running = [asyncio.ensure_future(it) for it in (keep_alive(is_well), *beside)]
+    notify("READY=1")
+    try:
+        yield
+    finally:
+        notify("STOPPING=1")
+        for task in running:
+            task.cancel()

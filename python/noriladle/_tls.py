@@ -44,18 +44,33 @@ def expiry(ends: float) -> str:
     return f"the certificate {'expired' if ends < time.time() else 'expires'} on {day}"
 
 
+def context_of(
+    cert: Optional[str], key: Optional[str], ca: Optional[str], purpose: ssl.Purpose = ssl.Purpose.SERVER_AUTH,
+) -> ssl.SSLContext:
+    """A context of a client, or for the purpose of a server. A client trusts these authorities, or those of the system.
+
+    :raises WrongWords: the files cannot be read, or certificate and key are no pair.
+    """
+    try:
+        context = ssl.create_default_context(purpose, cafile=ca)
+        context.minimum_version = ssl.TLSVersion.TLSv1_2
+        if cert:
+            context.load_cert_chain(cert, key)
+    except OSError as fault:  # ssl.SSLError is one.
+        pair = ", ".join(filter(None, (cert, key)))
+        raise WrongWords(f"{' or '.join(filter(None, (pair, ca)))}: {fault.strerror or fault}") from fault
+    return context
+
+
 def _loaded(cert: str, key: str, ca: Optional[str]) -> Tuple[ssl.SSLContext, float]:
     """A context of its own, which has made a handshake, and when its certificate expires."""
+    context = context_of(cert, key, ca, ssl.Purpose.CLIENT_AUTH)
     try:
-        context = ssl.create_default_context(ssl.Purpose.CLIENT_AUTH)
-        context.minimum_version = ssl.TLSVersion.TLSv1_2
-        context.load_cert_chain(cert, key)
         ends = _end_of(context, cert)
-        if ca:
-            context.load_verify_locations(ca)
-            context.verify_mode = ssl.CERT_REQUIRED
-    except OSError as fault:  # ssl.SSLError is one.
-        raise WrongWords(f"{cert}, {key}{f' or {ca}' if ca else ''}: {fault.strerror or fault}") from fault
+    except OSError as fault:
+        raise WrongWords(f"{cert}: {fault.strerror or fault}") from fault
+    if ca:
+        context.verify_mode = ssl.CERT_REQUIRED
     return context, ends
 
 

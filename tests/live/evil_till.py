@@ -4,6 +4,8 @@
 WHAT is a word of ENTRIES, which it writes one after the other; `commands`, which asks for whatever stops a node; or `flood SIZE`, rows
 of that many bytes by four connections as fast as they go. It prints how many it has written, or how many commands were not refused.
 """
+from __future__ import annotations
+
 import random
 import socket
 import sys
@@ -30,20 +32,20 @@ XTRIM ANSWERS MAXLEN 0;XADD ROWS MAXLEN 0 * s e n 0 t 1;XADD ROWS * s e n 0 t 1;
 """Of these, a till may give PING, CLUSTER SLOTS, XADD and XRANGE of its rows, and XREAD and XTRIM of its answers."""
 
 
-def packed(*words):
+def packed(*words: str) -> bytes:
     """The bytes of a command."""
-    words = [word.encode() for word in words]
-    return b"*%d\r\n%b" % (len(words), b"".join(b"$%d\r\n%b\r\n" % (len(word), word) for word in words))
+    parts = [word.encode() for word in words]
+    return b"*%d\r\n%b" % (len(parts), b"".join(b"$%d\r\n%b\r\n" % (len(part), part) for part in parts))
 
 
-def connected(port, user):
+def connected(port: str, user: str) -> socket.socket:
     client = socket.create_connection(("127.0.0.1", int(port)))
     client.sendall(packed("AUTH", user, "secret"))
     assert client.recv(100).startswith(b"+OK")
     return client
 
 
-def flood(port, user, stream, size, end, told):
+def flood(port: str, user: str, stream: str, size: int, end: float, told: list[int]) -> None:
     one = packed("XADD", stream, "*", "s", "e", "n", "0", "t", "x" * size)
     block = one * max(1, 65_536 // len(one))
     client = connected(port, user)
@@ -53,9 +55,10 @@ def flood(port, user, stream, size, end, told):
         told.append(len(block) // len(one))
 
 
-def main():
+def main() -> None:
     port, user, stream, what, *size, seconds = sys.argv[1:]
-    end, told = time.monotonic() + float(seconds), []
+    end = time.monotonic() + float(seconds)
+    told: list[int] = []
     if what == "flood":
         for _ in range(4):
             threading.Thread(target=flood, args=(port, user, stream, int(size[0]), end, told), daemon=True).start()

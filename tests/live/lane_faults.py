@@ -4,6 +4,8 @@ A scenario is a coroutine that takes a Record and does harm until the record has
 each for a short time, and tests/live/faults as long as you say. Every answer is compared with that of `gs1_hub lanes` or,
 for a text, of the library.
 """
+from __future__ import annotations
+
 import asyncio
 import contextlib
 import hashlib
@@ -19,6 +21,7 @@ import sys
 import tempfile
 import time
 from pathlib import Path
+from typing import Any, Callable, Collection, Coroutine, Iterable, Sequence, Union
 
 from noriladle import Refusal, read_scan
 from noriladle.streams import Fault, Shop, Till, Worker, answers, rows
@@ -62,10 +65,14 @@ ODD = {
 """What is no row, with its answers."""
 
 
+Word = Union[int, Path, str]
+"""A word of a command."""
+
+
 class Pool:
     """Rows and texts, with their answers."""
 
-    def __init__(self, seed):
+    def __init__(self, seed: int) -> None:
         asked, lines = random_lanes(1500, 1, seed)
         chance = random.Random(seed)
         self.answers = dict(zip(asked[0], (line.split(" ", 2)[2] for line in lines[0])))
@@ -74,12 +81,12 @@ class Pool:
         self.answers.update(ODD)
         self.usual, self.odd = [*asked[0], *texts], list(ODD)
 
-    def some(self, most, chance):
+    def some(self, most: int, chance: random.Random) -> list[str]:
         """A few rows, few of them odd."""
         return [chance.choice(self.odd if chance.random() < 0.001 else self.usual) for _ in range(chance.randint(1, most))]
 
 
-def answer_of(text):
+def answer_of(text: str) -> str:
     """The answer of the library to a text."""
     try:
         return str(read_scan(text, 2026))
@@ -90,21 +97,23 @@ def answer_of(text):
 class Record:
     """What the tills of all lanes got, and the longest time for which each lane had no answer."""
 
-    def __init__(self, answers, seed):
+    def __init__(self, answers: int, seed: int) -> None:
         self.wanted, self.random, self.pool = answers, random.Random(seed), Pool(seed)
         self.right = self.repeated = self.lost = self.strange = 0
-        self.wrong, self.notes, self.silence = [], [], {}
+        self.wrong: list[tuple[object, ...]] = []
+        self.notes: list[str] = []
+        self.silence: dict[str, float] = {}
         # Since when each till waits for an answer, by its lane and name.
-        self.waits = {}
+        self.waits: dict[tuple[str, str], float] = {}
         self.until = time.monotonic() + 900
         self.is_over = False
 
     @property
-    def has_enough(self):
+    def has_enough(self) -> bool:
         """Whether the tills have had enough answers, or too much time."""
         return self.right >= self.wanted or time.monotonic() > self.until
 
-    async def till(self, shop, lane, name="", pause=0.0, burst=1024, only=None):
+    async def till(self, shop: Shop, lane: str, name: str = "", pause: float = 0.0, burst: int = 1024, only: str | None = None) -> None:
         """A till of a lane, which submits some rows, waits for their answers, and so on."""
         chance = random.Random(f"{lane} {name}")
         till, n = Till(shop, lane, note=self.notes.append), 0
@@ -127,7 +136,7 @@ class Record:
                 await asyncio.sleep(chance.uniform(0, pause))
         self.repeated, self.lost, self.strange = self.repeated + till.repeated, self.lost + till.lost, self.strange + till.strange
 
-    async def at_work(self, tills, harm):
+    async def at_work(self, tills: list[Coroutine[Any, Any, None]], harm: Coroutine[Any, Any, None]) -> None:
         """Lets tills work while a coroutine does harm, which ends when there are enough answers."""
         tasks = [asyncio.ensure_future(it) for it in tills]
         harming = asyncio.ensure_future(harm)
@@ -141,20 +150,20 @@ class Record:
             task.cancel()
         await asyncio.gather(*tasks, return_exceptions=True)
 
-    async def goes_on(self):
+    async def goes_on(self) -> None:
         """Waits until more answers have come, for 20 seconds at most: else workers die faster than they start."""
         before, until = self.right, time.monotonic() + 20
         while self.right < before + 100 and time.monotonic() < until and not self.has_enough:
             await asyncio.sleep(0.05)
 
-    def longest(self, lanes=None):
+    def longest(self, lanes: Collection[str] | None = None) -> float:
         """The longest silence of some lanes since the last look, also of one that has not ended; the next look begins again."""
         now = time.monotonic()
         gaps = [*self.silence.items(), *((lane, now - since) for (lane, _), since in self.waits.items())]
         self.silence = {}
         return max((gap for lane, gap in gaps if lanes is None or lane in lanes), default=0.0)
 
-    def __str__(self):
+    def __str__(self) -> str:
         return (f"{self.right} right, {len(self.wrong)} wrong, doubled, out of order or missing; rows submitted again {self.repeated}, "
                 f"told as lost {self.lost}, answers to other rows {self.strange}")
 
@@ -162,16 +171,18 @@ class Record:
 class Place:
     """Processes of a scenario: nodes, Sentinels and workers, in a folder of their own; over TLS if they have certificates."""
 
-    def __init__(self, tls=False):
+    def __init__(self, tls: bool = False) -> None:
         self.folder = Path(tempfile.mkdtemp(prefix="faults-"))
-        self.processes, self.workers, self.words = [], {}, []
+        self.processes: list[subprocess.Popen[bytes]] = []
+        self.workers: dict[str, subprocess.Popen[bytes]] = {}
+        self.words: list[Word] = []
         self.certificates = make_certificates(self.folder) if tls else None
         self.log = open(self.folder / "log", "w")
 
-    def __enter__(self):
+    def __enter__(self) -> Place:
         return self
 
-    def __exit__(self, *_):
+    def __exit__(self, *_: object) -> None:
         for process in self.processes:
             if process.poll() is None:
                 process.send_signal(signal.SIGCONT)
@@ -180,13 +191,13 @@ class Place:
         self.log.close()
         shutil.rmtree(self.folder, ignore_errors=True)
 
-    def run(self, words, **environment):
+    def run(self, words: Sequence[Word], **environment: Any) -> subprocess.Popen[bytes]:
         """Starts a program."""
         process = subprocess.Popen([*map(str, words)], stdout=self.log, stderr=self.log, env={**os.environ, **environment})
         self.processes.append(process)
         return process
 
-    def node(self, port, *more, wipe=False, **environment):
+    def node(self, port: int, *more: Word, wipe: bool = False, **environment: Any) -> subprocess.Popen[bytes]:
         """Starts a node, or starts it again."""
         folder = self.folder / str(port)
         if wipe:
@@ -199,29 +210,30 @@ class Place:
             time.sleep(0.05)
         return process
 
-    def listens(self, port):
+    def listens(self, port: int) -> list[Word]:
         """The words of a node that listens on a port."""
         of = self.certificates
         return ["--port", "0", "--tls-port", port, "--tls-replication", "yes", "--tls-auth-clients", "yes", "--tls-cert-file", of / "node.pem",
                 "--tls-key-file", of / "node.key", "--tls-ca-cert-file", of / "ca.pem"] if of else ["--port", port]
 
-    def ask(self, port, *words):
+    def ask(self, port: int, *words: Word) -> str:
         """A command to a node."""
         of = self.certificates
-        return ask(port, *(["--tls", "--cacert", of / "ca.pem", "--cert", of / "client.pem", "--key", of / "client.key"] if of else []), *words)
+        tls: list[Word] = ["--tls", "--cacert", of / "ca.pem", "--cert", of / "client.pem", "--key", of / "client.key"] if of else []
+        return ask(port, *tls, *words)
 
-    def worker(self, name, **environment):
+    def worker(self, name: str, **environment: Any) -> None:
         """Starts a worker at the addresses, or starts it again."""
         words = [*NORILADLE, "worker", "--name", name, "--year", "2026", *self.words]
         self.workers[name] = self.run(words, **environment)
 
-    def kill(self, name):
+    def kill(self, name: str) -> None:
         self.workers[name].kill()
         self.workers[name].wait()
 
-    def at(self, *ports, master=None, user=None):
+    def at(self, *ports: int, master: str | None = None, user: str | None = None) -> Shop:
         """The addresses at which workers look, and the lanes of a till; those of Sentinels, if the master has a name there."""
-        self.words = [word for port in ports for word in ("--redis", f"127.0.0.1:{port}")] + (["--master", master] if master else [])
+        self.words = [*(word for port in ports for word in ("--redis", f"127.0.0.1:{port}")), *(["--master", master] if master else [])]
         context, of = None, self.certificates
         if of:
             self.words += ["--tls", "--ca", of / "ca.pem", "--cert", of / "client.pem", "--key", of / "client.key"]
@@ -229,18 +241,18 @@ class Place:
             context.load_cert_chain(of / "client.pem", of / "client.key")
         return Shop([f"127.0.0.1:{port}" for port in ports], user, user and "secret", tls=context, master=master)
 
-    def users(self, names):
+    def users(self, names: Iterable[str]) -> list[Word]:
         """The words of a node with the rights of `noriladle worker --acl` for these lanes; all passwords are `secret`."""
         told = subprocess.run([*NORILADLE, "worker", "--acl", *names], capture_output=True, text=True, check=True).stdout
         (self.folder / "users.acl").write_text(told.replace("#HASH", "#" + hashlib.sha256(b"secret").hexdigest()))
         return ["--aclfile", self.folder / "users.acl", "--masteruser", "replica", "--masterauth", "secret"]
 
 
-def lanes(count):
+def lanes(count: int) -> list[str]:
     return [f"lane.{number}" for number in range(count)]
 
 
-async def killed(record, tls=False):
+async def killed(record: Record, tls: bool = False) -> None:
     """Workers are killed and put to sleep, and the node is killed."""
     with Place(tls) as place:
         port, = free_ports(1)
@@ -249,7 +261,7 @@ async def killed(record, tls=False):
         for name in names:
             place.worker(name)
 
-        async def harm():
+        async def harm() -> None:
             nonlocal node
             while not record.has_enough:
                 await asyncio.sleep(record.random.uniform(0.3, 1))
@@ -272,15 +284,15 @@ async def killed(record, tls=False):
         await shop.close()
 
 
-async def killed_over_tls(record):
+async def killed_over_tls(record: Record) -> None:
     """The same over TLS."""
     await killed(record, tls=True)
 
 
-async def takeover(record):
+async def takeover(record: Record) -> dict[signal.Signals, list[float]]:
     """One of two workers is killed, or stopped regularly, while tills submit a few rows at a time. Returns the longest
     silence after each."""
-    longest = {signal.SIGKILL: [], signal.SIGTERM: []}
+    longest: dict[signal.Signals, list[float]] = {signal.SIGKILL: [], signal.SIGTERM: []}
     with Place() as place:
         port, = free_ports(1)
         place.node(port)
@@ -288,7 +300,7 @@ async def takeover(record):
         for name in names:
             place.worker(name)
 
-        async def harm():
+        async def harm() -> None:
             await asyncio.sleep(3)
             while not record.has_enough or not longest[signal.SIGTERM]:
                 for how in longest:
@@ -309,17 +321,17 @@ async def takeover(record):
 class OwnSentinel:
     """A Sentinel of one master, which this program names."""
 
-    def __init__(self, port):
+    def __init__(self, port: int) -> None:
         self.port, self.master = port, 0
 
-    async def __aenter__(self):
+    async def __aenter__(self) -> OwnSentinel:
         self.server = await asyncio.start_server(self._serve, "127.0.0.1", self.port)
         return self
 
-    async def __aexit__(self, *_):
+    async def __aexit__(self, *_: object) -> None:
         self.server.close()
 
-    async def _serve(self, reader, writer):
+    async def _serve(self, reader: asyncio.StreamReader, writer: asyncio.StreamWriter) -> None:
         with contextlib.suppress(OSError, asyncio.IncompleteReadError, ValueError):
             while True:
                 words = []
@@ -332,31 +344,31 @@ class OwnSentinel:
         writer.close()
 
 
-def shifted(folder, seconds):
+def shifted(folder: Path, seconds: int) -> tuple[dict[str, Any], Callable[[int], None]]:
     """The environment of a node whose clock is wrong, and a function that makes it wrong by other seconds."""
     (folder / "clock.c").write_text(CLOCK)
     library, file = folder / "clock.so", folder / "shift"
     subprocess.run(["gcc", "-shared", "-fPIC", "-O1", "-o", library, folder / "clock.c"], check=True)
     file.write_bytes(struct.pack("q", seconds))
 
-    def step(to):
+    def step(to: int) -> None:
         with open(file, "r+b") as it:
             it.write(struct.pack("q", to))
 
     return {"LD_PRELOAD": str(library), "SHIFT": str(file)}, step
 
 
-async def behind(record):
+async def behind(record: Record) -> float:
     """A master dies, and a replica takes over that is behind, and whose clock is 30 seconds behind too; and back again."""
     longest = 0.0
     with Place() as place:
         one, two, port = free_ports(3)
         slow, _ = shifted(place.folder, -30)
 
-        def start(node, *more):
+        def start(node: int, *more: Word) -> Any:
             return place.node(node, *more, wipe=True, **(slow if node == two else {}))
 
-        def follows(node):
+        def follows(node: int) -> bool:
             return "master_link_status:up" in ask(node, "INFO", "replication")
 
         nodes = {one: start(one), two: start(two, "--replicaof", "127.0.0.1", str(one))}
@@ -368,7 +380,7 @@ async def behind(record):
             for name in names:
                 place.worker(name)
 
-            async def harm():
+            async def harm() -> None:
                 nonlocal longest
                 await asyncio.sleep(2)
                 record.longest()
@@ -396,10 +408,10 @@ async def behind(record):
     return longest
 
 
-async def sentinels(record, tls=False):
+async def sentinels(record: Record, tls: bool = False) -> list[float]:
     """Three Sentinels of Redis, a master and two replicas, with rights; the master is killed and comes back as a replica. Returns the
     longest silence after each kill."""
-    longest = []
+    longest: list[float] = []
     with Place(tls) as place:
         first, *others = free_ports(3)
         names, users = lanes(12), place.users(lanes(12))
@@ -421,7 +433,7 @@ async def sentinels(record, tls=False):
         for name in ("one", "two"):
             place.worker(name, REDIS_PASSWORD="secret")
 
-        async def harm():
+        async def harm() -> None:
             await asyncio.sleep(3)
             while not record.has_enough or not longest:
                 record.longest()
@@ -439,15 +451,16 @@ async def sentinels(record, tls=False):
     return longest
 
 
-async def sentinels_over_tls(record):
+async def sentinels_over_tls(record: Record) -> list[float]:
     """The same over TLS."""
     return await sentinels(record, tls=True)
 
 
-async def hung(record, tls=False):
+async def hung(record: Record, tls: bool = False) -> tuple[list[float], list[float], list[float]]:
     """Of a cluster of three one node hangs, and then a worker is killed too. Returns the longest silences of the lanes of the
     other nodes: before, while it hangs, and with the kill."""
-    before, alone, with_kill = [], [], []
+    alone, with_kill = [], []
+    before: list[float] = []
     with (Secured() if tls else Cluster()) as cluster, Place() as place:
         place.certificates = cluster.root if tls else None
         bad, names = cluster.ports[2], ["one", "two", "three"]
@@ -456,7 +469,7 @@ async def hung(record, tls=False):
         for name in names:
             place.worker(name)
 
-        async def harm():
+        async def harm() -> None:
             await asyncio.sleep(3)
             record.longest()
             while not record.has_enough or not before:
@@ -482,12 +495,12 @@ async def hung(record, tls=False):
     return before, alone, with_kill
 
 
-async def hung_over_tls(record):
+async def hung_over_tls(record: Record) -> tuple[list[float], list[float], list[float]]:
     """The same over TLS."""
     return await hung(record, tls=True)
 
 
-async def clocks(record):
+async def clocks(record: Record) -> float:
     """The clock of the node steps, by up to an hour, while workers are killed and put to sleep. Returns the longest silence after two of them died
     for good, and the clock stepped back."""
     longest = 0.0
@@ -499,7 +512,7 @@ async def clocks(record):
         for name in names:
             place.worker(name)
 
-        async def harm():
+        async def harm() -> None:
             nonlocal longest
             while not record.has_enough:
                 await asyncio.sleep(record.random.uniform(0.3, 1))
@@ -530,7 +543,7 @@ async def clocks(record):
     return longest
 
 
-async def two_tills(record):
+async def two_tills(record: Record) -> None:
     """Two tills on each lane, and series that are taken again: with the same rows, and with others."""
     with Place() as place:
         port, = free_ports(1)
@@ -539,7 +552,7 @@ async def two_tills(record):
         for name in ("one", "two"):
             place.worker(name)
 
-        async def harm():
+        async def harm() -> None:
             while not record.has_enough:
                 texts = record.random.choices(record.pool.usual, k=300)
                 lane, stop = f"again.{record.random.randrange(4)}", record.random.randrange(1, 299)
@@ -562,7 +575,7 @@ async def two_tills(record):
         await shop.close()
 
 
-async def deleted(record):
+async def deleted(record: Record) -> None:
     """Somebody deletes groups, keys, entries or all."""
     with Place() as place:
         port, = free_ports(1)
@@ -571,20 +584,21 @@ async def deleted(record):
         for name in ("one", "two"):
             place.worker(name)
 
-        async def harm():
+        async def harm() -> None:
             while not record.has_enough:
                 await asyncio.sleep(1)
                 lane = record.random.choice(lanes(8))
-                ask(port, *record.random.choice([
+                commands: list[list[Word]] = [
                     ["DEL", rows(lane)], ["DEL", answers(lane)], ["FLUSHALL"], ["XGROUP", "DESTROY", rows(lane), "workers"],
-                    ["XTRIM", rows(lane), "MAXLEN", 0], ["XTRIM", answers(lane), "MAXLEN", 0]]))
+                    ["XTRIM", rows(lane), "MAXLEN", 0], ["XTRIM", answers(lane), "MAXLEN", 0]]
+                ask(port, *record.random.choice(commands))
 
         await record.at_work([record.till(shop, lane) for lane in lanes(8)], harm())
         await shop.close()
 
 
 
-def locked(place, port, names, *more):
+def locked(place: Place, port: int, names: Sequence[str], *more: Word) -> dict[str, Shop]:
     """A node with rights, and the lanes as each of their tills sees them."""
     place.node(port, *place.users(names), "--maxmemory-policy", "noeviction", "--proto-max-bulk-len", "1mb", "--maxmemory-clients", "16mb", *more)
     shops = {lane: place.at(port, user=f"till.{lane}") for lane in names}
@@ -595,10 +609,10 @@ def locked(place, port, names, *more):
 EVIL = [["commands"], ["odd"], ["megabyte"], ["sixty"], ["fields"], ["empty"], ["flood", "10"], ["flood", "60000"], ["flood", "1000000"]]
 
 
-async def evil(record, seconds=6):
+async def evil(record: Record, seconds: float = 6) -> dict[str, Any]:
     """One till writes what no till writes, and floods its lane. Returns for each evil how many entries it wrote, and the longest
     silence of the other lanes; and the most memory of a worker, in MB."""
-    told = {}
+    told: dict[str, Any] = {}
     with Place() as place:
         port, = free_ports(1)
         shops = locked(place, port, lanes(8), "--maxmemory", "300mb")
@@ -606,7 +620,7 @@ async def evil(record, seconds=6):
             place.worker(name, REDIS_PASSWORD="secret")
         bad, *others = lanes(8)
 
-        async def harm():
+        async def harm() -> None:
             await asyncio.sleep(3)
             record.longest()
             await asyncio.sleep(2)
@@ -630,12 +644,12 @@ async def evil(record, seconds=6):
     return told
 
 
-def most_memory(process):
+def most_memory(process: subprocess.Popen[Any]) -> int:
     """The most memory that a process has had, in kB."""
     return int(Path(f"/proc/{process.pid}/status").read_text().split("VmHWM:")[1].split()[0])
 
 
-async def full(record):
+async def full(record: Record) -> float:
     """Many lanes fill the memory of the node together, none of them too large: the worker empties the largest, and the others
     go on. Returns the longest silence."""
     with Place() as place:
@@ -649,7 +663,7 @@ async def full(record):
                     break
             await asyncio.sleep(3)  # Meanwhile the node frees the buffers of clients.
 
-        async def harm():
+        async def harm() -> None:
             for name in ("one", "two"):
                 place.worker(name, REDIS_PASSWORD="secret")
             end = time.monotonic() + 10
@@ -665,17 +679,17 @@ async def full(record):
     return record.longest()
 
 
-async def slow(record, names=("one", "two", "three")):
+async def slow(record: Record, names: tuple[str, str, str] = ("one", "two", "three")) -> float:
     """A row takes a worker 2 ms, one after the other, and tills submit all they may. Returns how many rows were worked for each answer."""
     with Place() as place:
         port, = free_ports(1)
         place.node(port)
         shop = place.at(port)
 
-        def worker(name):
+        def worker(name: str) -> Worker:
             one = asyncio.Lock()
 
-            async def answer(texts):
+            async def answer(texts: Sequence[str]) -> list[str]:
                 async with one:
                     await asyncio.sleep(0.002 * len(texts))
                 return [record.pool.answers[text] for text in texts]
@@ -685,7 +699,7 @@ async def slow(record, names=("one", "two", "three")):
         workers = [worker(name) for name in names]
         record.pool.odd = ["100"]
 
-        async def harm():
+        async def harm() -> None:
             working = [asyncio.ensure_future(worker.run()) for worker in workers]
             while not record.has_enough:
                 await asyncio.sleep(0.2)
@@ -700,12 +714,12 @@ async def slow(record, names=("one", "two", "three")):
     return sum(worker.given for worker in workers) / record.right
 
 
-async def slow_of_one_name(record):
+async def slow_of_one_name(record: Record) -> float:
     """The same, by three workers of one name."""
     return await slow(record, ("one", "one", "one"))
 
 
-async def thousand(record):
+async def thousand(record: Record) -> tuple[float, float, float, float, list[float]]:
     """A thousand lanes, of which each submits a few rows now and then. Returns the median and the longest silence, how long the
     first row of a new lane waits and a row alone, in seconds, and the share of a processor that each worker takes at rest."""
     with Place() as place:
@@ -715,7 +729,7 @@ async def thousand(record):
         for name in ("one", "two"):
             place.worker(name)
 
-        async def harm():
+        async def harm() -> None:
             await asyncio.sleep(8)
             record.longest()
             record.wanted += record.right
@@ -735,7 +749,7 @@ async def thousand(record):
     return silences[len(silences) // 2], silences[-1], took[0], sorted(took[1:])[25], rest
 
 
-def used(process):
+def used(process: subprocess.Popen[Any]) -> float:
     """The processor time that a process has used, in seconds."""
     words = Path(f"/proc/{process.pid}/stat").read_text().rpartition(")")[2].split()
     return (int(words[11]) + int(words[12])) / os.sysconf("SC_CLK_TCK")

@@ -11,6 +11,8 @@ Run it on an idle machine. It needs what tests/live/run needs. Say where program
 
     GS1_HUB=$PWD/crates/gs1_hub/out/gs1_hub PYTHONPATH=$PWD/python tests/live/measure.py
 """
+from __future__ import annotations
+
 import asyncio
 import os
 import sys
@@ -18,6 +20,7 @@ import tempfile
 import time
 from concurrent.futures import ProcessPoolExecutor
 from pathlib import Path
+from typing import Any, Awaitable, Callable, Iterable, Sequence
 
 from workers_and_tills import LANES, Shop, Till, Workers, read_lanes, rows_of
 from redis_cluster import Cluster
@@ -30,13 +33,13 @@ ONCE = 100_000
 COUNT = 40_000
 
 
-def middle(times):
+def middle(times: Iterable[float]) -> tuple[float, float]:
     """The median and the 99th of 100."""
     times = sorted(times)
     return times[len(times) // 2], times[len(times) * 99 // 100]
 
 
-async def timed(call, rows, scale):
+async def timed(call: Callable[[Any], Awaitable[Any]], rows: Iterable[Any], scale: float) -> list[float]:
     """The time for each row, sent when the one before it is answered."""
     times = []
     for widths in rows:
@@ -46,10 +49,10 @@ async def timed(call, rows, scale):
     return times
 
 
-async def measure_live():
+async def measure_live() -> None:
     asked, wanted = rows_of(ONCE, lanes=16)
     async with Hub(16, 2, 2026) as hub:
-        async def one(lane):
+        async def one(lane: str) -> tuple[str, list[tuple[int, str]]]:
             replies = hub.lane(int(lane)).read_all(asked[lane])
             return lane, [(reply.number, str(reply.answer)) async for reply in replies]
 
@@ -62,11 +65,11 @@ async def measure_live():
           f"p99 {alone[1]:.0f} us", flush=True)
 
 
-async def measure_gateway():
+async def measure_gateway() -> None:
     with tempfile.TemporaryDirectory() as folder, Gateway(Path(folder), port=False) as gateway:
         reader, writer = await asyncio.open_unix_connection(gateway.unix)
 
-        async def read(widths):
+        async def read(widths: str) -> None:
             writer.write(f"{widths}\n".encode())
             assert (await reader.readline()).endswith(f" {READ}\n".encode())
 
@@ -76,7 +79,7 @@ async def measure_gateway():
         with Serial("--gateway", gateway.unix, "--lane", "till-1") as scanner, gateway.watch("till-1") as till:
             assert till.line() == "0 next\n"
 
-            async def scan(text):
+            async def scan(text: bytes) -> None:
                 os.write(scanner.ours, text)
                 assert till.line().endswith(f" {READ}\n")
                 scanner.line()
@@ -85,20 +88,20 @@ async def measure_gateway():
         print(f"scanner to till, one at a time: median {alone[0]:.0f} us, p99 {alone[1]:.0f} us", flush=True)
 
 
-def used(pid):
+def used(pid: int | str) -> tuple[float, float]:
     """The processor time of a process so far, and that of its children, in seconds."""
     fields = Path(f"/proc/{pid}/stat").read_text().rpartition(")")[2].split()
     children = Path(f"/proc/{pid}/task/{pid}/children").read_text().split()
-    return (int(fields[11]) + int(fields[12])) / TICK, sum(used(child)[0] for child in children)
+    return (int(fields[11]) + int(fields[12])) / TICK, sum((used(child)[0] for child in children), 0.0)
 
 
-def costs(cluster, workers):
+def costs(cluster: Cluster, workers: Workers) -> tuple[float, float, float, float]:
     """The processor time of workers, hubs, nodes and the tills that have ended, so far."""
     own, hubs = map(sum, zip(*(used(process.pid) for process in workers.running.values())))
     return own, hubs, sum(used(process.pid)[0] for process in cluster.processes.values()), sum(os.times()[2:4])
 
 
-def at_once(address, asked):
+def at_once(address: str, asked: dict[str, list[str]]) -> dict[str, list[tuple[int, str]]]:
     """What the tills get; a process has those of four lanes."""
     parts = [{lane: asked[lane] for lane in lanes} for lanes in (LANES[:4], LANES[4:])]
     with ProcessPoolExecutor() as pool:
@@ -106,18 +109,19 @@ def at_once(address, asked):
     return {lane: got for part in told for lane, got in part.items()}
 
 
-def read_part(asked, address):
+def read_part(asked: dict[str, list[str]], address: str) -> dict[str, list[tuple[int, str]]]:
     return asyncio.run(read_lanes(address, asked))[0]
 
 
-async def one_at_a_time(address, asked, lanes, count):
+async def one_at_a_time(address: str, asked: dict[str, list[str]], lanes: Sequence[str],
+                        count: int) -> tuple[float, float]:
     shop = Shop(address)
     times = await asyncio.gather(*(timed(Till(shop, lane).read, asked[lane][:count], 1e3) for lane in lanes))
     await shop.close()
     return middle(sum(times, []))
 
 
-def measure_redis(fsync, number):
+def measure_redis(fsync: str, number: int) -> None:
     asked, wanted = rows_of(COUNT)
     with Cluster(more=f"appendfsync {fsync}\n") as cluster, Workers(cluster.address, number) as workers:
         asyncio.run(read_lanes(cluster.address, {lane: asked[lane][:1] for lane in LANES}))  # The workers have found them.
@@ -134,7 +138,7 @@ def measure_redis(fsync, number):
           f"8 lanes so: median {eight[0]:.2f} ms, p99 {eight[1]:.2f} ms", flush=True)
 
 
-def main(fsync="always"):
+def main(fsync: str = "always") -> None:
     print(f"{os.cpu_count()} processors, load {os.getloadavg()[0]:.1f} before")
     asyncio.run(measure_live())
     asyncio.run(measure_gateway())

@@ -1,5 +1,7 @@
 """Machines with their own addresses, for tests: each is a network namespace. A process carries the packets between them, late or not at all.
 Needs root and iproute2."""
+from __future__ import annotations
+
 import contextlib
 import ctypes
 import fcntl
@@ -12,6 +14,7 @@ import struct
 import subprocess
 import threading
 import time
+from typing import Any, Iterator
 
 NEW_NET = 0x40000000  # CLONE_NEWNET
 SET_TUN, TUN_OF_PACKETS = 0x400454CA, 0x1001  # TUNSETIFF; IFF_TUN | IFF_NO_PI
@@ -19,7 +22,7 @@ LIBC = ctypes.CDLL(None, use_errno=True)
 DELAY, LOSS, CARRIED, LOST = range(4)
 
 
-def _call(number):
+def _call(number: int) -> None:
     if number:
         raise OSError(ctypes.get_errno(), os.strerror(ctypes.get_errno()))
 
@@ -27,14 +30,15 @@ def _call(number):
 class Network:
     """Machines by their names, all on one network until some are cut off."""
 
-    def __init__(self, *names):
+    def __init__(self, *names: str) -> None:
         self.names = names
         self.addresses = {name: f"10.77.0.{number}" for number, name in enumerate(names, 1)}
         # The delay in seconds, the share of lost packets, two counts, and the side of each machine.
         self._rules = multiprocessing.RawArray("d", 4 + len(names))
-        self._files, self._devices = {}, []
+        self._files: dict[str, int] = {}
+        self._devices: list[int] = []
 
-    def __enter__(self):
+    def __enter__(self) -> Network:
         for name in self.names:
             making = threading.Thread(target=self._make, args=(name,))
             making.start()
@@ -44,13 +48,13 @@ class Network:
         self._router.start()
         return self
 
-    def __exit__(self, *_):
+    def __exit__(self, *_: object) -> None:
         self._router.kill()
         self._router.join()
         for file in [*self._devices, *self._files.values()]:
             os.close(file)
 
-    def _make(self, name):
+    def _make(self, name: str) -> None:
         """Makes a machine, in its own thread, which has that network from then on."""
         _call(LIBC.unshare(NEW_NET))
         self._files[name] = os.open("/proc/thread-self/ns/net", os.O_RDONLY)
@@ -61,7 +65,7 @@ class Network:
         self._devices.append(device)
 
     @contextlib.contextmanager
-    def inside(self, name):
+    def inside(self, name: str) -> Iterator[None]:
         """What this thread opens and starts within is on a machine."""
         here = os.open("/proc/thread-self/ns/net", os.O_RDONLY)
         _call(LIBC.setns(self._files[name], NEW_NET))
@@ -71,23 +75,24 @@ class Network:
             _call(LIBC.setns(here, NEW_NET))
             os.close(here)
 
-    def worsen(self, delay, loss):
+    def worsen(self, delay: float, loss: float) -> None:
         """From now on packets take about this many seconds, in any order, and this share of them is lost."""
         self._rules[DELAY], self._rules[LOSS] = delay, loss
 
-    def cut_off(self, *names):
+    def cut_off(self, *names: str) -> None:
         """Cuts these off from the others, but not from each other; the others are together again. Nobody gets a notice."""
         for number, name in enumerate(self.names):
             self._rules[4 + number] = name in names
 
-    def told(self):
+    def told(self) -> str:
         """What the network has done, in words."""
         return f"{self._rules[CARRIED]:.0f} packets carried, {self._rules[LOST]:.0f} lost"
 
 
-def _route(devices, rules):
+def _route(devices: list[int], rules: Any) -> None:
     """Carries packets between the machines, whose addresses end with their numbers from 1."""
-    ways, waiting, count = {device: number for number, device in enumerate(devices)}, [], 0
+    ways, count = {device: number for number, device in enumerate(devices)}, 0
+    waiting: list[tuple[float, int, int, bytes]] = []
     poll = select.epoll()
     for device in devices:
         poll.register(device, select.EPOLLIN)

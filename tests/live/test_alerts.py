@@ -1,5 +1,7 @@
 """Alerts: for each fault of the shop's services in which somebody has something to do, what Prometheus reads of real services while it lasts
 goes through the shipped rules. An alert fires within 30 seconds once the fault has lasted 30. Needs promtool and openssl; a full disk needs root."""
+from __future__ import annotations
+
 import contextlib
 import json
 import os
@@ -10,6 +12,8 @@ import subprocess
 import threading
 import time
 import urllib.request
+from pathlib import Path
+from typing import Any, Callable, Iterator
 
 import pytest
 
@@ -29,10 +33,14 @@ SAMPLE = re.compile(r"^(noriladle_\w+)(\{.*\})? (\S+)$")
 pytestmark = pytest.mark.skipif(not shutil.which("promtool"), reason="there is no promtool")
 
 
+Fault = Callable[[Gateway, Path, contextlib.ExitStack], Iterator[None]]
+"""Begins a shop, and then its fault."""
+
+
 class Recorded(threading.Thread):
     """A shop with a gateway, what Prometheus reads of it each 15 seconds, and a fault that begins right after the second read."""
 
-    def __init__(self, name, folder, begin, *words):
+    def __init__(self, name: str, folder: Path, begin: Fault, *words: str) -> None:
         super().__init__(daemon=True)
         self.name_of_fault = name
         folder.mkdir(exist_ok=True)
@@ -40,9 +48,10 @@ class Recorded(threading.Thread):
         self.parts = contextlib.ExitStack()
         self.fault = begin(self.gateway, folder, self.parts)
         next(self.fault)
-        self.reads, self.wrong = [], None
+        self.reads: list[dict[str, str]] = []
+        self.wrong: BaseException | None = None
 
-    def run(self):
+    def run(self) -> None:
         try:
             begin = time.monotonic()
             for number in range(2 + AFTER):
@@ -53,13 +62,13 @@ class Recorded(threading.Thread):
         except BaseException as wrong:  # The test raises it again.
             self.wrong = wrong
 
-    def end(self):
+    def end(self) -> None:
         self.gateway.process.send_signal(signal.SIGCONT)
         self.parts.close()
         self.gateway.process.kill()
         self.gateway.process.communicate()
 
-    def read(self):
+    def read(self) -> dict[str, str]:
         """The samples that Prometheus has of one read."""
         try:
             with urllib.request.urlopen(f"http://127.0.0.1:{self.gateway.ports['metrics']}/metrics", timeout=10) as told:
@@ -70,23 +79,23 @@ class Recorded(threading.Thread):
         values = {it[1] + (it[2] or ""): it[3] for it in found if it}
         return {'up{job="noriladle"}': "1", **values}
 
-    def series(self):
+    def series(self) -> list[dict[str, str]]:
         """The recorded samples as promtool takes them."""
         names = dict.fromkeys(name for read in self.reads for name in read)
         return [{"series": labelled(name, self.name_of_fault), "values": " ".join(read.get(name, "_") for read in self.reads)} for name in names]
 
 
-def labelled(name, instance):
+def labelled(name: str, instance: str) -> str:
     metric, _, labels = name.partition("{")
     return f'{metric}{{instance="{instance}",{labels or "}"}'
 
 
-def scanning(gateway, stack, lane="till-1", seconds=0.2, count=1):
+def scanning(gateway: Gateway, stack: contextlib.ExitStack, lane: str = "till-1", seconds: float = 0.2, count: int = 1) -> Serial:
     """A scanner that scans each fifth of a second, this many texts at once."""
     scanner = stack.enter_context(Serial("--gateway", gateway.unix, "--lane", lane))
     ends = threading.Event()
 
-    def scan():
+    def scan() -> None:
         while not ends.wait(seconds):
             scanner.send(b"]E09501101530003\r" * count, size=1_000)
             scanner.line(0.01)
@@ -100,36 +109,36 @@ def scanning(gateway, stack, lane="till-1", seconds=0.2, count=1):
 
 # Each prepares a shop, waits, and then begins a fault.
 
-def nothing(gateway, folder, stack):
+def nothing(gateway: Gateway, folder: Path, stack: contextlib.ExitStack) -> Iterator[None]:
     scanning(gateway, stack)
     stack.enter_context(gateway.watch("till-1"))
     yield
 
 
-def dead(gateway, folder, stack):
+def dead(gateway: Gateway, folder: Path, stack: contextlib.ExitStack) -> Iterator[None]:
     yield
     gateway.process.kill()
 
 
-def stopped(gateway, folder, stack):
+def stopped(gateway: Gateway, folder: Path, stack: contextlib.ExitStack) -> Iterator[None]:
     yield
     gateway.process.send_signal(signal.SIGSTOP)
 
 
-def hub_stopped(gateway, folder, stack):
+def hub_stopped(gateway: Gateway, folder: Path, stack: contextlib.ExitStack) -> Iterator[None]:
     yield
     os.kill(gateway.hub(), signal.SIGSTOP)
     stack.callback(os.kill, gateway.hub(), signal.SIGCONT)
 
 
-def hub_stopped_while_scanning(gateway, folder, stack):
+def hub_stopped_while_scanning(gateway: Gateway, folder: Path, stack: contextlib.ExitStack) -> Iterator[None]:
     scanning(gateway, stack)
     yield
     os.kill(gateway.hub(), signal.SIGSTOP)
     stack.callback(os.kill, gateway.hub(), signal.SIGCONT)
 
 
-def rows_wait(gateway, folder, stack):
+def rows_wait(gateway: Gateway, folder: Path, stack: contextlib.ExitStack) -> Iterator[None]:
     client = stack.enter_context(gateway.unix_client())
     client.ask(ROW)
     yield
@@ -138,72 +147,72 @@ def rows_wait(gateway, folder, stack):
     client.send(ROW)
 
 
-def scanner_unplugged(gateway, folder, stack):
+def scanner_unplugged(gateway: Gateway, folder: Path, stack: contextlib.ExitStack) -> Iterator[None]:
     scanner = scanning(gateway, stack)
     yield
     scanner.process.kill()
 
 
-def second_scanner(gateway, folder, stack):
+def second_scanner(gateway: Gateway, folder: Path, stack: contextlib.ExitStack) -> Iterator[None]:
     scanning(gateway, stack)
     yield
     scanning(gateway, stack)
 
 
-def scanner_floods(gateway, folder, stack):
+def scanner_floods(gateway: Gateway, folder: Path, stack: contextlib.ExitStack) -> Iterator[None]:
     yield
     scanning(gateway, stack, count=20)
 
 
-def expired(gateway, folder, stack):
+def expired(gateway: Gateway, folder: Path, stack: contextlib.ExitStack) -> Iterator[None]:
     yield
 
 
-def mismatched(gateway, folder, stack):
+def mismatched(gateway: Gateway, folder: Path, stack: contextlib.ExitStack) -> Iterator[None]:
     yield
     key, _ = pair(Authority(folder, "other"), folder / "second", "second")
     shutil.copy(key, folder / "key")
     gateway.process.send_signal(signal.SIGHUP)
 
 
-def wrong_options(gateway, folder, stack):
+def wrong_options(gateway: Gateway, folder: Path, stack: contextlib.ExitStack) -> Iterator[None]:
     yield
     (folder / "gateway.toml").write_text("lanez = 3\n")
     gateway.process.send_signal(signal.SIGHUP)
 
 
-def strangers(gateway, folder, stack):
+def strangers(gateway: Gateway, folder: Path, stack: contextlib.ExitStack) -> Iterator[None]:
     yield
     for _ in range(100):
         stack.enter_context(gateway.connect())
 
 
-def all_lanes(gateway, folder, stack):
+def all_lanes(gateway: Gateway, folder: Path, stack: contextlib.ExitStack) -> Iterator[None]:
     yield
     for _ in range(16):
         stack.enter_context(gateway.unix_client()).ask(ROW)
 
 
-def full_disk(gateway, folder, stack):
+def full_disk(gateway: Gateway, folder: Path, stack: contextlib.ExitStack) -> Iterator[None]:
     scanning(gateway, stack)
     yield
     fill(folder.parent / "disk")
 
 
-def disk_hangs(gateway, folder, stack):
+def disk_hangs(gateway: Gateway, folder: Path, stack: contextlib.ExitStack) -> Iterator[None]:
     scanning(gateway, stack)
     yield
     (folder / "hang").touch()
     stack.callback((folder / "hang").unlink)
 
 
-def no_log(gateway, folder, stack):
+def no_log(gateway: Gateway, folder: Path, stack: contextlib.ExitStack) -> Iterator[None]:
     """The log is a pipe that nobody reads."""
     yield
 
     ends = threading.Event()
 
-    def fill_log():
+    def fill_log() -> None:
         while not ends.is_set():
             clients = [gateway.unix_client() for _ in range(50)]
             for client in clients:
@@ -228,7 +237,7 @@ FAULTS = {
 }
 
 
-def words_of(name, folder, disk):
+def words_of(name: str, folder: Path, disk: Path) -> list[str]:
     """The gateway's options for a fault."""
     words = ["--log", "all"] if name == "nobody takes the log" else []
     if "certificate" in name:
@@ -247,7 +256,7 @@ def words_of(name, folder, disk):
     return words + (["--journal", str(disk / "journal")] if "journal" in name else [])
 
 
-def fires(recorded, alert, folder):
+def fires(recorded: Recorded, alert: str, folder: Path) -> list[int]:
     """How many seconds after the read before the fault an alert fires, or None."""
     times = [STEP * number for number in range(2, 2 + AFTER)]
     tests = [{"expr": f'count(ALERTS{{alertname=~"{alert}",alertstate="firing"}}) > bool 0', "eval_time": f"{at}s",
@@ -256,7 +265,7 @@ def fires(recorded, alert, folder):
     return [at - STEP for at in times if at not in missed]
 
 
-def failed(recorded, tests, folder):
+def failed(recorded: Recorded, tests: list[dict[str, Any]], folder: Path) -> set[int]:
     """The times whose test fails, by promtool."""
     file = folder / "rules_test.json"
     now = int(time.time()) // 1000 * 1000
@@ -272,7 +281,7 @@ def failed(recorded, tests, folder):
 
 
 @pytest.mark.limit(540)
-def test_each_fault_has_its_alert(tmp_path, monkeypatch, small_disk):  # noqa: F811
+def test_each_fault_has_its_alert(tmp_path: Path, monkeypatch: pytest.MonkeyPatch, small_disk: Path) -> None:  # noqa: F811
     """All faults at the same time, each in a shop of its own; and none for a shop without a fault."""
     shops = {}
     for name, (fault, _) in {"nothing": (nothing, ""), **FAULTS}.items():

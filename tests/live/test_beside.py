@@ -3,6 +3,8 @@
 At the same moments another gateway, which has no fault, answers scans too: what these wait is the machine's, and is allowed beside the 100 ms. So
 is the time for which the gateway, its hub or this test was ready to run and the machine ran others, or was not there itself, as the kernel counts it.
 The hub itself, and the disk of a journal that stops the shop, are of all lanes; so is power. Needs openssl; another machine needs root."""
+from __future__ import annotations
+
 import contextlib
 import itertools
 import os
@@ -16,6 +18,7 @@ import sys
 import threading
 import time
 from pathlib import Path
+from typing import Any, Callable, Generator, Iterator
 
 import pytest
 
@@ -40,8 +43,10 @@ TICK = os.sysconf("SC_CLK_TCK")
 class Lane:
     """A lane with a scanner and a till, and how long its scans waited: in all, and without the time for which the gateway could not run."""
 
-    def __init__(self, path, stack):
-        self.all, self.times, self._number = [], [], 0
+    def __init__(self, path: str, stack: contextlib.ExitStack) -> None:
+        self._number = 0
+        self.all: list[float] = []
+        self.times: list[float] = []
         self._till, self._scanner = (stack.enter_context(Client(path, socket.AF_UNIX)) for _ in range(2))
         name = f"good-{next(NUMBERS)}"
         self._scanner.send(f"scan {name}\n0\n".encode())
@@ -57,12 +62,12 @@ class Lane:
             first, threads = Path(f"/proc/{pid}/task/{pid}"), Path(f"/proc/{pid}/task").iterdir()
             self._threads += [[first], [it for it in threads if it != first]]
 
-    def _held_up(self):
+    def _held_up(self) -> tuple[list[list[float]], list[float]]:
         """For how many seconds the threads that a scan goes through were ready to run, and did not; and each processor was not there."""
         stolen = [int(line.split()[8]) / TICK for line in Path("/proc/stat").read_text().splitlines() if line.startswith("cpu") and line[3] != " "]
         return [[int((it / "schedstat").read_text().split()[1]) / 1e9 for it in its] for its in self._threads], stolen
 
-    def scan(self):
+    def scan(self) -> None:
         (ready, stolen), begin = self._held_up(), time.perf_counter()
         self._scanner.send(b"%d %s\n" % (self._number, EAN))
         assert self._till.line() == f"{self._number} {READ}\n" == self._scanner.line()
@@ -76,18 +81,22 @@ class Lane:
 # Each makes a shop, gives its socket, gets the name of the healthy lane, and then has its fault, which may go on in threads and processes that the
 # stack ends.
 
-def shop(folder, stack, *words, **more):
+Fault = Callable[[Path, contextlib.ExitStack], Generator[str, str, None]]
+"""Gives the socket of a shop, gets the name of its healthy lane, and then has its fault."""
+
+
+def shop(folder: Path, stack: contextlib.ExitStack, *words: str, **more: Any) -> Gateway:
     gateway = Gateway(folder, "--idle", "1000", *words, **more)
     stack.callback(gateway.process.wait)
     stack.callback(gateway.process.kill)
     return gateway
 
 
-def again_and_again(stack, call):
+def again_and_again(stack: contextlib.ExitStack, call: Callable[[], object]) -> None:
     """Calls a function until the stack ends."""
     ends = threading.Event()
 
-    def run():
+    def run() -> None:
         while not ends.is_set():
             call()
 
@@ -97,9 +106,9 @@ def again_and_again(stack, call):
     stack.callback(ends.set)
 
 
-def of_alerts(begin, *words):
+def of_alerts(begin: Callable[[Gateway, Path, contextlib.ExitStack], Iterator[None]], *words: str) -> Fault:
     """A fault of test_alerts.py."""
-    def fault(folder, stack):
+    def fault(folder: Path, stack: contextlib.ExitStack) -> Generator[str, str, None]:
         if "--config" in words:
             key, file = pair(Authority(folder, "shop"), folder / "first", "first")
             shutil.copy(key, folder / "key"), shutil.copy(file, folder / "pem")
@@ -112,7 +121,7 @@ def of_alerts(begin, *words):
     return fault
 
 
-def certificates(folder, stack):
+def certificates(folder: Path, stack: contextlib.ExitStack) -> Generator[str, str, None]:
     """It is renewed again and again by halves, by others, by none and by expired ones, and clients over TLS come."""
     authority = Authority(folder, "shop")
     (key, file), (other_key, other), (_, old) = (pair(authority, folder / name, name, days) for name, days in (("first", "30"), ("second", "30"), ("third", "-1")))
@@ -123,7 +132,7 @@ def certificates(folder, stack):
     gateway = shop(folder, stack, "--config", str(folder / "gateway.toml"))
     yield gateway.unix
 
-    def renew():
+    def renew() -> None:
         for its_key, its in ((other_key, file), (other_key, folder / "half"), (folder / "empty", other), (other_key, old), (other_key, other), (key, file)):
             shutil.copy(its_key, folder / "key"), shutil.copy(its, folder / "pem")
             gateway.process.send_signal(signal.SIGHUP)
@@ -134,13 +143,13 @@ def certificates(folder, stack):
     again_and_again(stack, renew)
 
 
-def a_log_on_a_full_disk(folder, stack):
+def a_log_on_a_full_disk(folder: Path, stack: contextlib.ExitStack) -> Generator[str, str, None]:
     gateway = stack.enter_context(Blocked(folder, stack.enter_context(open("/dev/full", "w"))))
     yield gateway.unix
     again_and_again(stack, lambda: come_and_go(gateway.unix, 0.003))
 
 
-def a_log_that_nobody_reads(folder, stack):
+def a_log_that_nobody_reads(folder: Path, stack: contextlib.ExitStack) -> Generator[str, str, None]:
     unread, end = small_pipe()
     stack.callback(os.close, unread), stack.callback(os.close, end)
     gateway = stack.enter_context(Blocked(folder, end))
@@ -148,13 +157,13 @@ def a_log_that_nobody_reads(folder, stack):
     again_and_again(stack, lambda: come_and_go(gateway.unix, 0.003))
 
 
-def come_and_go(path, seconds):
+def come_and_go(path: str, seconds: float) -> None:
     """A client whose connection is logged."""
     Client(path, socket.AF_UNIX).__exit__()
     time.sleep(seconds)
 
 
-def other_program(*words):
+def other_program(*words: str | int) -> subprocess.Popen[bytes]:
     return subprocess.Popen([sys.executable, *map(str, words)], stdout=subprocess.PIPE)
 
 
@@ -170,9 +179,9 @@ time.sleep(1_000)
 """
 
 
-def sockets_of(port, said):
+def sockets_of(port: str, said: str) -> Fault:
     """1,100 strangers of a port, in a program of their own: threads of this one hold up each other."""
-    def fault(folder, stack):
+    def fault(folder: Path, stack: contextlib.ExitStack) -> Generator[str, str, None]:
         gateway = shop(folder, stack, "--web", "0")
         yield gateway.unix
         its = stack.enter_context(other_program("-c", STRANGERS, gateway.ports[port], said))
@@ -181,8 +190,8 @@ def sockets_of(port, said):
     return fault
 
 
-def floods(count):
-    def fault(folder, stack):
+def floods(count: int) -> Fault:
+    def fault(folder: Path, stack: contextlib.ExitStack) -> Generator[str, str, None]:
         gateway = shop(folder, stack, port=False)
         yield gateway.unix
         its = stack.enter_context(other_program(test_limits.__file__, gateway.unix, count))
@@ -202,9 +211,9 @@ threading.Event().wait()
 """
 
 
-def rows(count, row):
+def rows(count: int, row: str) -> Fault:
     """Programs that send rows as fast as they go."""
-    def fault(folder, stack):
+    def fault(folder: Path, stack: contextlib.ExitStack) -> Generator[str, str, None]:
         gateway = shop(folder, stack)
         yield gateway.unix
         its = stack.enter_context(other_program("-c", ROWS, gateway.ports["port"], count, row))
@@ -212,18 +221,18 @@ def rows(count, row):
     return fault
 
 
-def without_a_line_end(folder, stack):
+def without_a_line_end(folder: Path, stack: contextlib.ExitStack) -> Generator[str, str, None]:
     gateway = shop(folder, stack)
     yield gateway.unix
     clients = [stack.enter_context(gateway.connect()) for _ in range(60)]
     again_and_again(stack, lambda: [client.send(b"1 " * 50_000) for client in clients])
 
 
-def too_large_numbers(folder, stack):
+def too_large_numbers(folder: Path, stack: contextlib.ExitStack) -> Generator[str, str, None]:
     gateway = shop(folder, stack, port=False)
     yield gateway.unix
 
-    def call():
+    def call() -> None:
         with gateway.unix_client() as client:
             client.send(b"scan bad\n999999999999999999\n")
             client.lines.read()
@@ -231,7 +240,7 @@ def too_large_numbers(folder, stack):
     again_and_again(stack, call)
 
 
-def a_scanner_that_sleeps(folder, stack):
+def a_scanner_that_sleeps(folder: Path, stack: contextlib.ExitStack) -> Generator[str, str, None]:
     """Its program is stopped while it has texts."""
     gateway = shop(folder, stack, port=False)
     scanner = stack.enter_context(Serial("--gateway", gateway.unix, "--lane", "till-2"))
@@ -244,7 +253,7 @@ def a_scanner_that_sleeps(folder, stack):
     scanner.process.send_signal(signal.SIGCONT)
 
 
-def tills_that_take_nothing(folder, stack):
+def tills_that_take_nothing(folder: Path, stack: contextlib.ExitStack) -> Generator[str, str, None]:
     """Of the healthy lane itself, and of a page."""
     gateway = shop(folder, stack, "--web", "0", port=False)
     lane = yield gateway.unix
@@ -254,7 +263,7 @@ def tills_that_take_nothing(folder, stack):
         its.send(HANDSHAKE.replace(b"till-1", lane.encode()))
 
 
-def a_till_without_power(folder, stack):
+def a_till_without_power(folder: Path, stack: contextlib.ExitStack) -> Generator[str, str, None]:
     network = stack.enter_context(Network("shop", "till"))
     with network.inside("shop"):
         gateway = shop(folder, stack, "--host", network.addresses["shop"], "--anyone")
@@ -267,12 +276,12 @@ def a_till_without_power(folder, stack):
     network.cut_off("till")
 
 
-def requests_of_browsers(folder, stack):
+def requests_of_browsers(folder: Path, stack: contextlib.ExitStack) -> Generator[str, str, None]:
     """To the port of scanners, and to that of the numbers under another name."""
     gateway = shop(folder, stack, "--metrics", "0")
     yield gateway.unix
 
-    def call():
+    def call() -> None:
         for name, host in (("port", b"x"), ("metrics", b"evil.example"), ("metrics", b"localhost")):
             with Client(("127.0.0.1", gateway.ports[name])) as client:
                 client.send(b"GET /metrics HTTP/1.1\r\nHost: " + host + b"\r\n\r\n")
@@ -281,17 +290,17 @@ def requests_of_browsers(folder, stack):
     again_and_again(stack, call)
 
 
-def a_second_gateway(folder, stack):
+def a_second_gateway(folder: Path, stack: contextlib.ExitStack) -> Generator[str, str, None]:
     gateway = shop(folder, stack, port=False)
     yield gateway.unix
     again_and_again(stack, lambda: subprocess.run([*NORILADLE, "gateway", "--unix", gateway.unix], capture_output=True))
 
 
-def connections_that_come_and_go(folder, stack):
+def connections_that_come_and_go(folder: Path, stack: contextlib.ExitStack) -> Generator[str, str, None]:
     gateway = shop(folder, stack)
     yield gateway.unix
 
-    def call():
+    def call() -> None:
         with gateway.connect() as client:
             client.send(ROW * 20 + ROW[:-10])
             client.reset()
@@ -299,14 +308,14 @@ def connections_that_come_and_go(folder, stack):
     again_and_again(stack, call)
 
 
-def a_journal_that_is_checked(folder, stack):
+def a_journal_that_is_checked(folder: Path, stack: contextlib.ExitStack) -> Generator[str, str, None]:
     """While it is written."""
     gateway = shop(folder, stack, "--journal", str(folder / "journal"), port=False)
     yield gateway.unix
     again_and_again(stack, lambda: subprocess.run([*NORILADLE, "journal", folder / "journal", "--check"], capture_output=True))
 
 
-def nothing(folder, stack):
+def nothing(folder: Path, stack: contextlib.ExitStack) -> Generator[str, str, None]:
     yield shop(folder, stack, port=False).unix
 
 
@@ -323,20 +332,20 @@ FAULTS = {
 }
 
 
-def go_on(fault, lane):
+def go_on(fault: Generator[str, str, None], lane: str) -> None:
     with contextlib.suppress(StopIteration):
         fault.send(lane)
 
 
 @pytest.fixture(scope="module")
-def control(tmp_path_factory):
+def control(tmp_path_factory: pytest.TempPathFactory) -> Iterator[Gateway]:
     """A gateway without a fault."""
     with Gateway(tmp_path_factory.mktemp("control"), "--idle", "1000", port=False) as gateway:
         yield gateway
 
 
 @pytest.mark.parametrize("name", FAULTS)
-def test_a_healthy_lane(tmp_path, control, name):
+def test_a_healthy_lane(tmp_path: Path, control: Gateway, name: str) -> None:
     if name == "a till loses power" and (os.geteuid() or not os.path.exists("/dev/net/tun")):
         pytest.skip("only root makes machines of network namespaces")
     with contextlib.ExitStack() as stack:

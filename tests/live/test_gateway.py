@@ -1,4 +1,6 @@
 """The gateway with the real program, and clients over TCP and a UNIX socket. Needs socat and pgrep."""
+from __future__ import annotations
+
 import asyncio
 import json
 import os
@@ -9,6 +11,8 @@ import threading
 import time
 import urllib.error
 import urllib.request
+from pathlib import Path
+from typing import Iterator
 
 import pytest
 
@@ -21,7 +25,7 @@ TAKEN = "closed: all 16 lanes are taken\n"
 
 
 @pytest.fixture
-def gateway(tmp_path):
+def gateway(tmp_path: Path) -> Iterator[Gateway]:
     with Gateway(tmp_path) as it:
         yield it
         # Whatever came, each lane is free again.
@@ -30,7 +34,7 @@ def gateway(tmp_path):
 
 
 @pytest.mark.parametrize("kind", ["TCP", "UNIX-CONNECT"])
-def test_socat(gateway, kind):
+def test_socat(gateway: Gateway, kind: str) -> None:
     address = f"TCP:127.0.0.1:{gateway.ports['port']}" if kind == "TCP" else f"UNIX-CONNECT:{gateway.unix}"
     rows = ROW + b"\n\r\n100\r\nno row\n" + ROW
     found = subprocess.run(["socat", "-t5", "-", address], input=rows, capture_output=True, check=True).stdout.decode()
@@ -39,7 +43,7 @@ def test_socat(gateway, kind):
 
 
 @pytest.mark.parametrize("words, gtin, two", [((), "(01)09501101530003", "(10)A=B(21)C"), (("--elements",), "01=09501101530003", "10=A=B\t21=C")])
-def test_elements(tmp_path, words, gtin, two):
+def test_elements(tmp_path: Path, words: tuple[str, ...], gtin: str, two: str) -> None:
     """In the answers to rows, and in those to scans, as the program writes them; the gateway's own scan is answered too."""
     with Gateway(tmp_path, "--metrics", "0", *words) as gateway, gateway.connect() as client, gateway.unix_client() as scanner:
         assert client.ask(ROW) == f"0 ]E0 {gtin}\n"
@@ -51,7 +55,7 @@ def test_elements(tmp_path, words, gtin, two):
         assert gateway.numbers()['noriladle_refusals_total{number="3"}'] == "1"
 
 
-def test_texts_of_scanners(gateway):
+def test_texts_of_scanners(gateway: Gateway) -> None:
     """They take no number."""
     with gateway.connect() as client:
         for number in range(3):
@@ -61,7 +65,7 @@ def test_texts_of_scanners(gateway):
             assert client.ask(b"]E09501101530004\n") == "- refused 3 CheckDigit\n"
 
 
-def test_16_connections_and_the_17th(gateway):
+def test_16_connections_and_the_17th(gateway: Gateway) -> None:
     """Rows of 16 at once get the lines of `lanes`, and each connection has its own numbers from 0."""
     asked, wanted = random_lanes(16_000, 16)
     for _ in range(2):
@@ -70,7 +74,7 @@ def test_16_connections_and_the_17th(gateway):
             assert late.ask(ROW) == TAKEN
         got = [""] * 16
 
-        def one(lane):
+        def one(lane: int) -> None:
             sending = threading.Thread(target=clients[lane].send, args=("\n".join([*asked[lane], ""]).encode(),))
             sending.start()
             lines = [clients[lane].lines.readline().decode() for _ in asked[lane]]
@@ -101,14 +105,14 @@ def test_16_connections_and_the_17th(gateway):
     (b"https://id.gs1.org/" + b"1/" * 10_000, "- refused 40 Kind"),
     (b"]C191" + b"A" * 200, "- refused 11 TooLong"),
 ], ids=["other lane", "quoted", "bytes", "http", "80 kB", "longest", "too long", "10 MB", "wide", "segments", "193 bytes"])
-def test_no_row(gateway, row, answer):
+def test_no_row(gateway: Gateway, row: bytes, answer: str) -> None:
     with gateway.connect() as client:
         assert client.ask(ROW) == f"0 {READ}\n"
         assert client.ask(row + b"\n") == f"{answer}\n"
         assert client.ask(ROW) == f"1 {READ}\n"
 
 
-def test_noise(gateway):
+def test_noise(gateway: Gateway) -> None:
     """Random bytes: each line that is not blank gets one answer."""
     sent = noise(1_000_000).replace(b"\r", b"") + b"\n"
     with gateway.connect() as client:
@@ -120,7 +124,7 @@ def test_noise(gateway):
         assert client.ask(ROW).endswith(f" {READ}\n")
 
 
-def test_10_mb_without_a_line_end_take_no_memory(gateway):
+def test_10_mb_without_a_line_end_take_no_memory(gateway: Gateway) -> None:
     before = gateway.most_memory()
     with gateway.connect() as client:
         for _ in range(100):
@@ -129,7 +133,7 @@ def test_10_mb_without_a_line_end_take_no_memory(gateway):
         assert client.ask(b"\n") == "- refused 44 InputSize\n"
 
 
-def test_a_line_that_was_cut_is_no_row(gateway):
+def test_a_line_that_was_cut_is_no_row(gateway: Gateway) -> None:
     with gateway.connect() as client:
         client.send(ROW + ROW[:-10])
         assert client.ends() == f"0 {READ}\n"
@@ -141,7 +145,7 @@ def test_a_line_that_was_cut_is_no_row(gateway):
             client.lines.readline()
 
 
-def test_connections_that_are_reset(gateway):
+def test_connections_that_are_reset(gateway: Gateway) -> None:
     """In the middle of a line, and of a turn; more of them than there are lanes."""
     for count in range(80):
         client = gateway.free_lane()
@@ -149,7 +153,7 @@ def test_connections_that_are_reset(gateway):
         client.reset()
 
 
-def test_idle(tmp_path):
+def test_idle(tmp_path: Path) -> None:
     with Gateway(tmp_path, "--idle", "0.5", "--lanes", "1") as gateway:
         with gateway.connect() as client:
             assert client.ask(ROW) == f"0 {READ}\n"
@@ -173,7 +177,7 @@ def test_idle(tmp_path):
             gateway.free_lane().__exit__()
 
 
-def flood(gateway):
+def flood(gateway: Gateway) -> Client:
     """A connection that takes no answer, and has sent rows until no more were taken, or it was closed: the buffers of a UNIX socket
     are small."""
     client = Client(gateway.unix, socket.AF_UNIX)
@@ -184,7 +188,7 @@ def flood(gateway):
     return client
 
 
-def test_one_that_takes_nothing_holds_up_no_other(tmp_path):
+def test_one_that_takes_nothing_holds_up_no_other(tmp_path: Path) -> None:
     """Nor is anything more read of it."""
     with Gateway(tmp_path, "--metrics", "0") as gateway, flood(gateway):
         answered = gateway.numbers()["noriladle_answers_total"]
@@ -195,7 +199,7 @@ def test_one_that_takes_nothing_holds_up_no_other(tmp_path):
         assert int(gateway.numbers()["noriladle_answers_total"]) == int(answered) + 100
 
 
-def test_the_hub_dies(tmp_path):
+def test_the_hub_dies(tmp_path: Path) -> None:
     """Each connection gets the reason, and the gateway ends with status 1, so systemd starts it again."""
     with Gateway(tmp_path) as gateway:
         clients = [gateway.free_lane() for _ in range(16)]
@@ -211,7 +215,7 @@ def test_the_hub_dies(tmp_path):
         assert gateway.process.stderr.read().endswith("Z the hub has ended, status -9\n")
 
 
-def test_a_second_gateway_on_one_socket(tmp_path):
+def test_a_second_gateway_on_one_socket(tmp_path: Path) -> None:
     """It ends at once, and the first keeps its socket."""
     with Gateway(tmp_path) as gateway:
         ran = subprocess.run([*NORILADLE, "gateway", "--unix", gateway.unix], capture_output=True, text=True, timeout=20)
@@ -221,7 +225,7 @@ def test_a_second_gateway_on_one_socket(tmp_path):
             assert client.ask(ROW) == f"0 {READ}\n"
 
 
-def test_lanes_are_kept_for_the_unix_socket(tmp_path):
+def test_lanes_are_kept_for_the_unix_socket(tmp_path: Path) -> None:
     with Gateway(tmp_path, "--lanes", "3", "--kept", "1") as gateway:
         clients = [gateway.free_lane(), gateway.free_lane()]
         with gateway.connect() as late, gateway.unix_client() as client:
@@ -235,7 +239,7 @@ def test_lanes_are_kept_for_the_unix_socket(tmp_path):
         gateway.free_lane().__exit__()
 
 
-def test_silent_connections_take_no_lane(gateway):
+def test_silent_connections_take_no_lane(gateway: Gateway) -> None:
     """Forty that say nothing, or half a line, and one that works."""
     silent = [gateway.connect() for _ in range(40)]
     for client in silent[:20]:
@@ -245,7 +249,7 @@ def test_silent_connections_take_no_lane(gateway):
         client.__exit__()
 
 
-def test_too_many_connections(tmp_path):
+def test_too_many_connections(tmp_path: Path) -> None:
     with Gateway(tmp_path, "--connections", "3") as gateway:
         time.sleep(1)  # The one that tried whether it is there has gone.
         clients = [gateway.connect() for _ in range(3)]
@@ -258,7 +262,7 @@ def test_too_many_connections(tmp_path):
         gateway.free_lane().__exit__()
 
 
-def test_many_connections(tmp_path):
+def test_many_connections(tmp_path: Path) -> None:
     """Connections above 256 get the reason, and the others are served."""
     with Gateway(tmp_path, "--each", "10000") as gateway:
         time.sleep(1)  # The one that tried whether it is there has gone.
@@ -275,7 +279,7 @@ def test_many_connections(tmp_path):
         gateway.free_lane().__exit__()
 
 
-def test_a_line_that_comes_byte_by_byte_is_no_sign_of_life(tmp_path):
+def test_a_line_that_comes_byte_by_byte_is_no_sign_of_life(tmp_path: Path) -> None:
     """A client that sends a byte now and then does not keep its lane."""
     with Gateway(tmp_path, "--idle", "0.5", "--lanes", "1") as gateway, gateway.connect() as client:
         assert client.ask(ROW) == f"0 {READ}\n"
@@ -285,7 +289,7 @@ def test_a_line_that_comes_byte_by_byte_is_no_sign_of_life(tmp_path):
                 time.sleep(0.1)
 
 
-def page(gateway, path):
+def page(gateway: Gateway, path: str) -> tuple[int, str]:
     """The status and the text of a page for operators."""
     try:
         with urllib.request.urlopen(f"http://127.0.0.1:{gateway.ports['metrics']}{path}", timeout=10) as answer:
@@ -294,7 +298,7 @@ def page(gateway, path):
         return refused.code, refused.read().decode()
 
 
-def test_health_and_metrics(tmp_path):
+def test_health_and_metrics(tmp_path: Path) -> None:
     with Gateway(tmp_path, "--metrics", "0") as gateway:
         with gateway.free_lane() as client:
             assert client.ask(b"100\n") == "1 refused 19 Blank\n"
@@ -314,7 +318,7 @@ def test_health_and_metrics(tmp_path):
         assert page(gateway, "/healthz") == (200, "ok\n")
 
 
-def test_log(tmp_path):
+def test_log(tmp_path: Path) -> None:
     """A line for each connection, with its time and its peer, as text or as JSON."""
     gateway = Gateway(tmp_path, "--log", "all", "--json")
     with gateway.watch("till-1") as till, gateway.unix_client() as scanner:
@@ -356,14 +360,14 @@ def test_log(tmp_path):
     ("[rights]\nanyone = 'rows, read till-1'\n", ":2: anyone: what is \"rows\", \"scan LANE\""),
     ("[rights]\nanyone = ''\n", ":2: anyone: what is"),
 ])
-def test_a_file_of_options_that_is_wrong(tmp_path, text, wanted):
+def test_a_file_of_options_that_is_wrong(tmp_path: Path, text: str, wanted: str) -> None:
     file = tmp_path / "gateway.toml"
     file.write_text(text)
     ran = subprocess.run([*NORILADLE, "gateway", "--unix", str(tmp_path / "hub"), "--config", file], capture_output=True, text=True)
     assert ran.returncode == 2 and ran.stderr.startswith(f"noriladle: {file}{wanted}"), ran.stderr
 
 
-def test_a_file_of_options(tmp_path):
+def test_a_file_of_options(tmp_path: Path) -> None:
     """What stands in it holds unless a word says otherwise, at each reload too; a part of it can be changed at work."""
     file = tmp_path / "gateway.toml"
     file.write_text("lanes = 2\nidle = 30\nelements = true\nconnections = 1\n")
@@ -377,7 +381,7 @@ def test_a_file_of_options(tmp_path):
                 assert client.lines.read() == f"closed: nothing came or was taken for {idle} seconds\n".encode()
 
 
-def test_a_file_that_is_wrong_changes_nothing_at_work(tmp_path):
+def test_a_file_that_is_wrong_changes_nothing_at_work(tmp_path: Path) -> None:
     file = tmp_path / "gateway.toml"
     file.write_text("idle = 30\n")
     gateway = Gateway(tmp_path, "--config", str(file))
@@ -396,17 +400,17 @@ def test_a_file_that_is_wrong_changes_nothing_at_work(tmp_path):
 class Notified:
     """A socket like systemd's, and the messages of a service to it."""
 
-    def __init__(self, folder):
+    def __init__(self, folder: Path) -> None:
         self.path = str(folder / "notify")
         self.socket = socket.socket(socket.AF_UNIX, socket.SOCK_DGRAM)
         self.socket.bind(self.path)
         self.socket.settimeout(20)
 
-    def next(self):
+    def next(self) -> str:
         return self.socket.recv(4096).decode()
 
 
-def test_systemd_is_told(tmp_path, monkeypatch):
+def test_systemd_is_told(tmp_path: Path, monkeypatch: pytest.MonkeyPatch) -> None:
     """When it is ready, that it lives, that it reloads its options, and that it stops."""
     systemd = Notified(tmp_path)
     monkeypatch.setenv("NOTIFY_SOCKET", systemd.path)
@@ -436,7 +440,7 @@ def test_systemd_is_told(tmp_path, monkeypatch):
 
 
 @pytest.mark.parametrize("number", [signal.SIGTERM, signal.SIGINT])
-def test_it_stops_when_told(tmp_path, number):
+def test_it_stops_when_told(tmp_path: Path, number: signal.Signals) -> None:
     with Gateway(tmp_path) as gateway:
         with gateway.free_lane() as client, flood(gateway):
             hub = gateway.hub()
@@ -447,7 +451,7 @@ def test_it_stops_when_told(tmp_path, number):
                 os.kill(hub, 0)
 
 
-def test_it_stops_beside_a_hub_that_is_stopped(tmp_path):
+def test_it_stops_beside_a_hub_that_is_stopped(tmp_path: Path) -> None:
     """Within the ten seconds after which systemd would kill it; its clients are told first."""
     with Gateway(tmp_path) as gateway, gateway.free_lane() as client:
         hub, begin = gateway.hub(), time.monotonic()
@@ -461,7 +465,7 @@ def test_it_stops_beside_a_hub_that_is_stopped(tmp_path):
             os.kill(hub, 0)
 
 
-def test_the_watchdog_of_another_process(monkeypatch):
+def test_the_watchdog_of_another_process(monkeypatch: pytest.MonkeyPatch) -> None:
     """Its time is none of this one's."""
     monkeypatch.setenv("WATCHDOG_USEC", "600000")
     for pid, wanted in ((os.getpid(), 0.6), (1, None)):
@@ -469,16 +473,16 @@ def test_the_watchdog_of_another_process(monkeypatch):
         assert watchdog() == wanted
 
 
-def test_signs_of_life(monkeypatch):
+def test_signs_of_life(monkeypatch: pytest.MonkeyPatch) -> None:
     """Three in the time that systemd gives the service; its socket may have a name without a file."""
     name, asked, slept = f"noriladle-{os.getpid()}", [], []
 
-    async def sleep(seconds):
+    async def sleep(seconds: float) -> None:
         slept.append(seconds)
         monkeypatch.delenv("NOTIFY_SOCKET")
         raise asyncio.CancelledError
 
-    async def is_well():
+    async def is_well() -> None:
         asked.append(1)
 
     monkeypatch.setenv("WATCHDOG_USEC", "30000000")
@@ -495,7 +499,7 @@ def test_signs_of_life(monkeypatch):
 
 
 @pytest.mark.parametrize("has_row", [True, False])
-def test_it_answers_what_is_under_way_before_it_stops(tmp_path, has_row):
+def test_it_answers_what_is_under_way_before_it_stops(tmp_path: Path, has_row: bool) -> None:
     """A scan that the hub has, and a row."""
     with Gateway(tmp_path) as gateway, gateway.free_lane() as client, gateway.unix_client() as scanner:
         assert scanner.ask(b"scan till-1\n") == "0 next\n"
@@ -512,7 +516,7 @@ def test_it_answers_what_is_under_way_before_it_stops(tmp_path, has_row):
         assert scanner.lines.read() == f"0 {READ}\nclosed: the gateway stops\n".encode()
 
 
-def test_a_client_that_has_said_all_gets_its_answers(tmp_path):
+def test_a_client_that_has_said_all_gets_its_answers(tmp_path: Path) -> None:
     """A scanner that sends no more, while the hub takes its time."""
     with Gateway(tmp_path, port=False) as gateway, gateway.unix_client() as scanner:
         assert scanner.ask(b"scan till-1\n") == "0 next\n"
@@ -523,7 +527,7 @@ def test_a_client_that_has_said_all_gets_its_answers(tmp_path):
         assert scanner.ends() == f"0 {READ}\n"
 
 
-def test_a_socket_that_was_left(tmp_path):
+def test_a_socket_that_was_left(tmp_path: Path) -> None:
     """One that was killed leaves its socket, and the next takes its place."""
     with Gateway(tmp_path) as gateway:
         gateway.process.kill()
@@ -540,17 +544,17 @@ def test_a_socket_that_was_left(tmp_path):
     (["--port", "0", "--idle", "0"], 2, "argument --idle: '0' is no number of seconds above 0"),
     (["--unix", "no/such/folder/hub"], 1, "noriladle: no/such/folder/hub.lock: No such file or directory\n"),
 ])
-def test_words(words, status, wanted):
+def test_words(words: list[str], status: int, wanted: str) -> None:
     ran = subprocess.run([*NORILADLE, "gateway", *words], capture_output=True, text=True)
     assert ran.returncode == status and wanted in ran.stderr and "Traceback" not in ran.stderr
 
 
-def test_no_program():
+def test_no_program() -> None:
     ran = subprocess.run([*NORILADLE, "gateway", "--port", "0"], capture_output=True, text=True, env={**os.environ, "GS1_HUB": "no/such/program"})
     assert (ran.returncode, ran.stderr) == (1, "noriladle: no/such/program: No such file or directory\n")
 
 
-def test_one_at_a_time(gateway):
+def test_one_at_a_time(gateway: Gateway) -> None:
     with gateway.connect() as client:
         client.socket.setsockopt(socket.IPPROTO_TCP, socket.TCP_NODELAY, 1)
         times = []

@@ -1,4 +1,6 @@
 """Health that is true: what a gateway says of itself while its hub does not answer, and its numbers for Prometheus. Needs promtool."""
+from __future__ import annotations
+
 import os
 import re
 import shutil
@@ -8,6 +10,8 @@ import subprocess
 import time
 import urllib.error
 import urllib.request
+from pathlib import Path
+from typing import Any, Iterator
 
 import pytest
 
@@ -21,12 +25,12 @@ EAN = b"]E09501101530003"
 
 
 @pytest.fixture
-def gateway(tmp_path):
+def gateway(tmp_path: Path) -> Iterator[Gateway]:
     with Gateway(tmp_path, "--metrics", "0") as it:
         yield it
 
 
-def test_a_hub_that_is_stopped_is_not_ready(gateway):
+def test_a_hub_that_is_stopped_is_not_ready(gateway: Gateway) -> None:
     """Within a second, with the reason, though nobody asks the hub; and ready again when it answers."""
     assert page(gateway, "/readyz") == (200, "ready\n")
     os.kill(gateway.hub(), signal.SIGSTOP)
@@ -38,7 +42,7 @@ def test_a_hub_that_is_stopped_is_not_ready(gateway):
     gateway.waits_for(ready=1)
 
 
-def test_a_hub_whose_answers_are_wrong_is_not_ready(tmp_path, monkeypatch):
+def test_a_hub_whose_answers_are_wrong_is_not_ready(tmp_path: Path, monkeypatch: pytest.MonkeyPatch) -> None:
     hub = tmp_path / "gs1_hub"
     hub.write_text(f"#!/bin/sh\n{shutil.which(PROGRAM)} \"$@\" | sed -u s/09501101530003/09501101530010/\n")
     hub.chmod(0o755)
@@ -47,7 +51,7 @@ def test_a_hub_whose_answers_are_wrong_is_not_ready(tmp_path, monkeypatch):
         assert page(gateway, "/readyz") == (503, "the hub answers ]E0 (01)09501101530010 to ]E09501101530003\n")
 
 
-def test_the_oldest_scan_of_each_lane(gateway):
+def test_the_oldest_scan_of_each_lane(gateway: Gateway) -> None:
     """As long as a scan waits, its lane and no other has it in its numbers; rows of programs have the lane -."""
     with gateway.unix_client() as scanner, gateway.unix_client() as other, gateway.connect() as rows:
         for client, lane in ((scanner, b"till-1"), (other, b"till-2")):
@@ -71,7 +75,7 @@ def test_the_oldest_scan_of_each_lane(gateway):
     gateway.waits_for(**{'scanner_connected{lane="till-1"}': 0})
 
 
-def test_the_numbers_of_a_lane(gateway):
+def test_the_numbers_of_a_lane(gateway: Gateway) -> None:
     """What came, what had no answer, what never came, and who found the lane taken."""
     with gateway.unix_client() as scanner, gateway.unix_client() as other:
         scanner.send(b"scan till-1\n7\n7 " + EAN + b"\n8\tunplugged\n")
@@ -84,7 +88,7 @@ def test_the_numbers_of_a_lane(gateway):
         assert values["noriladle_answers_total"] == "2" and not [name for name in values if name.startswith("noriladle_refusals")]
 
 
-def test_the_histogram_and_the_version(gateway):
+def test_the_histogram_and_the_version(gateway: Gateway) -> None:
     """Each answer is in one of the buckets, and the slow one in that of its time."""
     with gateway.unix_client() as client:
         client.send(b"scan till-1\n0\n")
@@ -104,7 +108,7 @@ def test_the_histogram_and_the_version(gateway):
 
 
 @pytest.mark.skipif(not shutil.which("promtool"), reason="there is no promtool")
-def test_names_and_format(gateway):
+def test_names_and_format(gateway: Gateway) -> None:
     """As promtool takes them, by Prometheus' conventions for names and units."""
     with gateway.unix_client() as client:
         client.send(b"scan till-1\n0\n0 " + EAN + b"\n1 ]E09501101530004\n")
@@ -120,7 +124,7 @@ def test_names_and_format(gateway):
     (b"127.0.0.1:%d", 200), (b"localhost", 200), (b"[::1]:4712", 200), (b"LOCALHOST:1", 200), (b"evil.example", 403), (b"127.0.0.1.evil.example", 403),
     (b"localhost:80@evil.example", 403), (b"", 403), (None, 403), (b"127.0.0.1\r\nHost: evil.example", 403),
 ])
-def test_the_host_of_a_request(gateway, host, status):
+def test_the_host_of_a_request(gateway: Gateway, host: bytes | None, status: int) -> None:
     """A page of another site whose name stands for this machine reads nothing."""
     with Client(("127.0.0.1", gateway.ports["metrics"])) as client:
         its = b"" if host is None else b"Host: " + (host.replace(b"%d", b"%d" % gateway.ports["metrics"])) + b"\r\n"
@@ -129,7 +133,7 @@ def test_the_host_of_a_request(gateway, host, status):
     assert told.startswith(b"HTTP/1.1 %d " % status) and (b"noriladle_" in told) == (status == 200)
 
 
-def test_other_methods_and_many_clients(gateway):
+def test_other_methods_and_many_clients(gateway: Gateway) -> None:
     with Client(("127.0.0.1", gateway.ports["metrics"])) as client:
         client.send(b"POST /metrics HTTP/1.1\r\nHost: localhost\r\n\r\n")
         assert client.lines.read().startswith(b"HTTP/1.1 405 ")
@@ -143,14 +147,15 @@ def test_other_methods_and_many_clients(gateway):
         client.__exit__()
 
 
-def test_a_port_that_is_taken_stops_no_gateway(tmp_path, gateway):
+def test_a_port_that_is_taken_stops_no_gateway(tmp_path: Path, gateway: Gateway) -> None:
     """It says so, and goes on without its numbers."""
     folder = tmp_path / "other"
     folder.mkdir()
     other = Gateway(folder, port=False)
     with other:
         pass
-    process = subprocess.Popen([*other.process.args, "--metrics", str(gateway.ports["metrics"])], stderr=subprocess.PIPE, text=True)
+    words: Any = other.process.args
+    process = subprocess.Popen([*words, "--metrics", str(gateway.ports["metrics"])], stderr=subprocess.PIPE, text=True)
     try:
         assert f"--metrics {gateway.ports['metrics']}: " in process.stderr.readline()
         with Client(other.unix, socket.AF_UNIX) as client:
@@ -162,7 +167,7 @@ def test_a_port_that_is_taken_stops_no_gateway(tmp_path, gateway):
         process.communicate(timeout=20)
 
 
-def test_without_prometheus_client(tmp_path, monkeypatch):
+def test_without_prometheus_client(tmp_path: Path, monkeypatch: pytest.MonkeyPatch) -> None:
     """The gateway says what it lacks, and is ready all the same."""
     (tmp_path / "modules").mkdir()
     (tmp_path / "modules/sitecustomize.py").write_text(

@@ -1,4 +1,6 @@
 """The journal of scans: each answer that a till saw is in it, once, whatever happens to the gateway and to its disk. Needs root for a full disk."""
+from __future__ import annotations
+
 import asyncio
 import os
 import random
@@ -9,6 +11,9 @@ import socket
 import subprocess
 import threading
 import time
+from functools import partial
+from pathlib import Path
+from typing import Any, Coroutine, Iterator, NoReturn, Sequence
 
 import pytest
 
@@ -27,13 +32,13 @@ PARTS = max(1, SCANS // 200_000)
 """How often the gateway is killed, stopped and short of disk four times each, and the test's time is taken."""
 
 
-def check(folder, *words):
+def check(folder: Path, *words: str) -> tuple[str, str, int]:
     """What `noriladle journal` prints, its counts and faults, and its status."""
     ran = subprocess.run([*NORILADLE, "journal", str(folder), *words], capture_output=True, text=True)
     return ran.stdout, ran.stderr, ran.returncode
 
 
-def scan_all(client, lane, texts):
+def scan_all(client: Client, lane: str, texts: list[bytes]) -> list[str]:
     """Scans texts in form 1, and returns the lines."""
     client.send(f"scan {lane}\n".encode())
     first = int(client.line().split()[0])
@@ -41,7 +46,7 @@ def scan_all(client, lane, texts):
     return [client.line() for _ in texts]
 
 
-def test_what_is_in_it(tmp_path):
+def test_what_is_in_it(tmp_path: Path) -> None:
     """Each scan with its time, lane, number, text and answer, also those without an answer, and rows of programs."""
     folder = tmp_path / "journal"
     with Gateway(tmp_path, "--journal", str(folder)) as gateway, gateway.unix_client() as client, gateway.unix_client() as other:
@@ -69,7 +74,7 @@ def test_what_is_in_it(tmp_path):
     assert oct(folder.stat().st_mode & 0o777) == "0o750"
 
 
-def test_the_time_of_a_scan(tmp_path):
+def test_the_time_of_a_scan(tmp_path: Path) -> None:
     """It is that at which the scanner read it."""
     folder, second = tmp_path / "journal", int(time.time()) - 1
     with Gateway(tmp_path, "--journal", str(folder), port=False) as gateway, gateway.unix_client() as client:
@@ -78,7 +83,7 @@ def test_the_time_of_a_scan(tmp_path):
         assert check(folder)[0].startswith(time.strftime("%Y-%m-%dT%H:%M:%S.123Z\ttill-1\t0\t", time.gmtime(second)))
 
 
-def recorded(folder):
+def recorded(folder: Path) -> dict[tuple[str, str, str], tuple[str, str]]:
     """The answers of a journal by lane, series and number, which must be whole."""
     found = Check(folder)
     answers = {}
@@ -93,9 +98,9 @@ def recorded(folder):
 class Shop:
     """A scanner that scans as fast as it is answered, window by window, whatever happens to its gateway; and what its till saw."""
 
-    def __init__(self, path, lane):
+    def __init__(self, path: str, lane: str) -> None:
         self.path, self.lane = path, lane
-        self.saw = {}
+        self.saw: dict[tuple[str, str], tuple[str, float]] = {}
         """What the till saw, by series and number."""
         self.unread = self.sent = self.number = 0
         self.ends = False
@@ -103,7 +108,7 @@ class Shop:
         for it in self.threads:
             it.start()
 
-    def _watch(self):
+    def _watch(self) -> None:
         while not self.ends:
             try:
                 with Client(self.path, socket.AF_UNIX) as till:
@@ -122,7 +127,7 @@ class Shop:
             except (OSError, ValueError):
                 time.sleep(0.05)
 
-    def _scan(self):
+    def _scan(self) -> None:
         series = "%08x" % random.Random(SEED).getrandbits(32)
         while not self.ends:
             try:
@@ -137,7 +142,7 @@ class Shop:
             except (OSError, ValueError):
                 time.sleep(0.05)
 
-    def _scan_window(self, scanner):
+    def _scan_window(self, scanner: Client) -> bool:
         """Whether 100 scans were answered or unread."""
         first, self.number = self.number, self.number + 100
         self.sent += 100
@@ -151,7 +156,7 @@ class Shop:
             self.unread += " unread: " in line
         return True
 
-    def end(self):
+    def end(self) -> None:
         self.ends = True
         for it in self.threads:
             it.join(20)
@@ -159,7 +164,7 @@ class Shop:
 
 
 @pytest.mark.limit(450 * PARTS)
-def test_a_gateway_that_is_killed_stopped_and_short_of_disk(tmp_path):
+def test_a_gateway_that_is_killed_stopped_and_short_of_disk(tmp_path: Path) -> None:
     """Whatever a till saw as an answer is in the journal, with this answer, and once; no answer was old; and the check finds nothing."""
     folder, chance, times = tmp_path / "journal", random.Random(SEED), 12 * PARTS
     gateway = Gateway(tmp_path, "--journal", str(folder), port=False)
@@ -193,8 +198,8 @@ def test_a_gateway_that_is_killed_stopped_and_short_of_disk(tmp_path):
     said = gateway.process.communicate(timeout=20)[1]
     answers = recorded(folder)
     told = {key: said for key, (said, _) in shop.saw.items() if not said.startswith("unread: ")}
-    for (series, number), said_to_till in told.items():
-        assert answers["till-1", series, number] == (f"]C121{number}", said_to_till)
+    for (series, scan), said_to_till in told.items():
+        assert answers["till-1", series, scan] == (f"]C121{scan}", said_to_till)
     # What was refused since it could not be written is not there.
     refused = {key for key, (said, _) in shop.saw.items() if said.startswith("unread: the journal cannot be written")}
     assert refused and not any(("till-1", *key) in answers for key in refused)
@@ -205,7 +210,7 @@ def test_a_gateway_that_is_killed_stopped_and_short_of_disk(tmp_path):
     assert len(told) > max(0.9 * (shop.sent - shop.unread), SCANS // 5) and oldest < 5 and "Traceback" not in said
 
 
-def fill(folder):
+def fill(folder: Path) -> None:
     """Leaves no room on the disk of a folder."""
     with open(folder / "filler", "ab", buffering=0) as file:
         try:
@@ -216,7 +221,7 @@ def fill(folder):
 
 
 @pytest.fixture
-def small_disk(tmp_path):
+def small_disk(tmp_path: Path) -> Iterator[Path]:
     """A disk of 2 MB."""
     place = tmp_path / "disk"
     place.mkdir()
@@ -227,7 +232,7 @@ def small_disk(tmp_path):
 
 
 @pytest.mark.parametrize("what", ["stop", "go-on"])
-def test_a_full_disk(tmp_path, small_disk, what):
+def test_a_full_disk(tmp_path: Path, small_disk: Path, what: str) -> None:
     """By the operator's choice scans are unread, or answered without a record; both say so, and go on when there is room."""
     gateway = Gateway(tmp_path, "--journal", str(small_disk / "journal"), "--journal-full", what, "--metrics", "0", port=False)
     with gateway.unix_client() as client, gateway.unix_client() as rows:
@@ -257,7 +262,7 @@ def test_a_full_disk(tmp_path, small_disk, what):
 
 
 @pytest.mark.parametrize("what", ["stop", "go-on"])
-def test_a_disk_that_hangs(tmp_path, monkeypatch, what):
+def test_a_disk_that_hangs(tmp_path: Path, monkeypatch: pytest.MonkeyPatch, what: str) -> None:
     """Scans are unread, and the gateway is not ready, until it answers; then all that came is there, once."""
     folder = tmp_path / "journal"
     hang = hanging(tmp_path, monkeypatch)
@@ -273,7 +278,7 @@ def test_a_disk_that_hangs(tmp_path, monkeypatch, what):
     assert [line.split("\t")[2:] for line in check(folder)[0].splitlines()] == [[str(number), EAN.decode(), READ] for number in range(4)]
 
 
-def hanging(folder, monkeypatch):
+def hanging(folder: Path, monkeypatch: pytest.MonkeyPatch) -> Path:
     """A file; while it is there, no write to the disk ends in programs that are started from now on."""
     (folder / "hang.c").write_text("""
 #define _GNU_SOURCE
@@ -291,7 +296,7 @@ int fdatasync(int file) {
     return folder / "hang"
 
 
-def test_files_follow_each_other_and_have_a_limit(tmp_path):
+def test_files_follow_each_other_and_have_a_limit(tmp_path: Path) -> None:
     """The oldest are removed, and what is left is whole."""
     folder = tmp_path / "journal"
     with Gateway(tmp_path, "--journal", str(folder), "--journal-most", "1", "--metrics", "0", port=False) as gateway, gateway.unix_client() as client:
@@ -311,9 +316,9 @@ def test_files_follow_each_other_and_have_a_limit(tmp_path):
     assert check(folder, "--check")[2] == 0
 
 
-def test_files_have_their_limit_whatever_comes_together(tmp_path):
+def test_files_have_their_limit_whatever_comes_together(tmp_path: Path) -> None:
     """Each write fits a file, or has one of its own."""
-    async def test():
+    async def test() -> None:
         journal = Journal(str(tmp_path / "journal"), 1 << 20, False, Log(), Metrics())
         for size in (10, 200, 200, 700, 10, 200, 30):  # In kB; a file has up to 256.
             assert await journal.put_all([Scan(time.time(), "-", "-", "0", b"1" * 900, READ)] * size) == ""
@@ -338,7 +343,7 @@ def test_files_have_their_limit_whatever_comes_together(tmp_path):
     ("add a file without a record", r"scans-0+7.tsv:1: it does not go on where scans-0+5.tsv ends: a file was taken away or changed"),
     ("change two files", r"10 records in 3 files, 2 faults\n"),
 ])
-def test_a_journal_that_was_changed(tmp_path, what, wanted):
+def test_a_journal_that_was_changed(tmp_path: Path, what: str, wanted: str) -> None:
     folder = tmp_path / "journal"
     for begin in range(3):
         with Gateway(tmp_path, "--journal", str(folder), port=False) as gateway, gateway.unix_client() as client:
@@ -384,7 +389,7 @@ def test_a_journal_that_was_changed(tmp_path, what, wanted):
     ("\t2\t]E0", "\t2\t]E1", [1, 2], ":4: this record was changed, or one before it is missing"),
     ("journal 1", "journal 2", [], ":1: this is no beginning of a file of the journal"),
 ])
-def test_a_last_file_that_was_changed(tmp_path, old, new, kept, wanted):
+def test_a_last_file_that_was_changed(tmp_path: Path, old: str, new: str, kept: list[int], wanted: str) -> None:
     """The next gateway keeps it, and begins above every number that may stand behind the changed line, so no number comes twice."""
     folder = tmp_path / "journal"
     for count in (6, 1):
@@ -400,9 +405,9 @@ def test_a_last_file_that_was_changed(tmp_path, old, new, kept, wanted):
     assert len(found.faults) == 1 and found.faults[0].endswith(wanted)
 
 
-def test_a_scan_that_is_there_twice(tmp_path):
+def test_a_scan_that_is_there_twice(tmp_path: Path) -> None:
     """In the journal of a gateway that is wrong: the check says which. What waits when the gateway stops is written before it has ended."""
-    async def test():
+    async def test() -> None:
         journal = Journal(str(tmp_path / "journal"), 1 << 30, False, Log(), Metrics())
         await put(journal, [5, 6])
         for number in (6, 3, 7):
@@ -416,7 +421,7 @@ def test_a_scan_that_is_there_twice(tmp_path):
     assert "scan 6 of lane till-1 is there twice, or out of its order: record 3" in said and "scan 3 of lane till-1 is there twice" in said
 
 
-def test_a_record_that_is_cut(tmp_path):
+def test_a_record_that_is_cut(tmp_path: Path) -> None:
     """The gateway died while it wrote: no answer was sent, which is no fault; the next gateway goes on before it."""
     folder = tmp_path / "journal"
     for cut in range(1, 40, 6):
@@ -428,14 +433,14 @@ def test_a_record_that_is_cut(tmp_path):
         assert status == 0 and f"{last}: the gateway died while it wrote record " in said
 
 
-def test_a_second_gateway_on_one_journal(tmp_path):
+def test_a_second_gateway_on_one_journal(tmp_path: Path) -> None:
     folder = tmp_path / "journal"
     with Gateway(tmp_path, "--journal", str(folder), port=False):
         ran = subprocess.run([*NORILADLE, "gateway", "--unix", str(tmp_path / "other"), "--journal", str(folder)], capture_output=True, text=True, timeout=20)
     assert (ran.returncode, ran.stderr) == (2, f"noriladle: another gateway has the journal {folder}; give each its own\n")
 
 
-def test_the_lock_of_a_journal_follows_no_link(tmp_path):
+def test_the_lock_of_a_journal_follows_no_link(tmp_path: Path) -> None:
     folder = tmp_path / "journal"
     folder.mkdir()
     (folder / "lock").symlink_to(tmp_path / "target")
@@ -448,17 +453,17 @@ def test_the_lock_of_a_journal_follows_no_link(tmp_path):
     (["--journal", "/dev/null"], "noriladle: --journal /dev/null: it is no folder\n"),
     (["--journal", "no/such/folder"], "noriladle: --journal no/such/folder: No such file or directory\n"),
 ])
-def test_no_folder(tmp_path, words, wanted):
+def test_no_folder(tmp_path: Path, words: list[str], wanted: str) -> None:
     ran = subprocess.run([*NORILADLE, "gateway", "--unix", str(tmp_path / "hub"), *words], capture_output=True, text=True, timeout=20)
     assert (ran.returncode, ran.stderr) == (2, wanted)
 
 
-def test_no_journal(tmp_path):
+def test_no_journal(tmp_path: Path) -> None:
     assert check(tmp_path) == ("", f"noriladle: {tmp_path}: there is no journal\n", 2)
     assert check(tmp_path / "none") == ("", f"noriladle: {tmp_path}/none: No such file or directory\n", 2)
 
 
-def test_a_scan_whose_scanner_waits_no_longer(tmp_path):
+def test_a_scan_whose_scanner_waits_no_longer(tmp_path: Path) -> None:
     """It is in the journal too, as unread, and so is one whose hub does not answer; each once."""
     folder = tmp_path / "journal"
     with Gateway(tmp_path, "--journal", str(folder), port=False) as gateway, gateway.unix_client() as client:
@@ -477,18 +482,18 @@ def test_a_scan_whose_scanner_waits_no_longer(tmp_path):
 class Disk:
     """Counts writes to the disk, which take a while, and can refuse them."""
 
-    def __init__(self, monkeypatch):
+    def __init__(self, monkeypatch: pytest.MonkeyPatch) -> None:
         self.count, self.folders, self.refuses = 0, 0, False
         self.really, self.really_all = os.fdatasync, os.fsync
         monkeypatch.setattr(journal_module.os, "fdatasync", self.sync)
         monkeypatch.setattr(journal_module.os, "fsync", self.sync_folder)
 
-    def sync_folder(self, descriptor):
+    def sync_folder(self, descriptor: int) -> None:
         """A file that is new is on the disk once its folder is."""
         self.folders += 1
         self.really_all(descriptor)
 
-    def sync(self, descriptor):
+    def sync(self, descriptor: int) -> None:
         time.sleep(0.1)
         self.count += 1
         if self.refuses:
@@ -496,21 +501,25 @@ class Disk:
         self.really(descriptor)
 
 
-def put(journal, numbers):
+def put(journal: Journal, numbers: Sequence[int]) -> Coroutine[Any, Any, list[tuple[int, str, float]]]:
     """Puts scans into a journal, and returns what is called, in its order, and when."""
-    async def wait():
+    async def wait() -> list[tuple[int, str, float]]:
         done = []
+
+        def note(number: int, why: str) -> None:
+            done.append((number, why, time.monotonic()))
+
         for number in numbers:
-            journal.put(Scan(time.time(), "till-1", "0" * 8, str(number), EAN, READ), lambda why, it=number: done.append((it, why, time.monotonic())))
+            journal.put(Scan(time.time(), "till-1", "0" * 8, str(number), EAN, READ), partial(note, number))
         while len(done) < len(numbers):
             await asyncio.sleep(0.005)
         return done
     return wait()
 
 
-def test_an_answer_waits_for_the_disk_and_shares_its_write(tmp_path, monkeypatch):
+def test_an_answer_waits_for_the_disk_and_shares_its_write(tmp_path: Path, monkeypatch: pytest.MonkeyPatch) -> None:
     """500 scans that wait together need a write or two, and none is called before its own; after a failed one the file begins anew."""
-    async def test():
+    async def test() -> None:
         disk = Disk(monkeypatch)
         journal = Journal(str(tmp_path / "journal"), 1 << 30, False, Log(), Metrics())
         begin = time.monotonic()
@@ -534,12 +543,12 @@ def test_an_answer_waits_for_the_disk_and_shares_its_write(tmp_path, monkeypatch
     asyncio.run(asyncio.wait_for(test(), 30))
 
 
-def test_a_record_that_stays_though_it_was_refused(tmp_path, monkeypatch):
+def test_a_record_that_stays_though_it_was_refused(tmp_path: Path, monkeypatch: pytest.MonkeyPatch) -> None:
     """The disk fails, and the file cannot be cut: the next one begins before that record, and the check says that it was not sent."""
-    def no_cut(*_):
+    def no_cut(*_: object) -> NoReturn:
         raise OSError(5, "Input/output error")
 
-    async def test():
+    async def test() -> None:
         disk = Disk(monkeypatch)
         monkeypatch.setattr(journal_module.os, "ftruncate", no_cut)
         journal = Journal(str(tmp_path / "journal"), 1 << 30, False, Log(), Metrics())
@@ -555,16 +564,16 @@ def test_a_record_that_stays_though_it_was_refused(tmp_path, monkeypatch):
     assert counts == f"{first}: its last 1 records were not sent\n4 records in 2 files, 0 faults\n"
 
 
-def test_rows_that_come_together_are_written_together(tmp_path, monkeypatch):
+def test_rows_that_come_together_are_written_together(tmp_path: Path, monkeypatch: pytest.MonkeyPatch) -> None:
     """All or none of them, though the disk has room again while they are put."""
     calls = []
 
-    def sync(descriptor):
+    def sync(descriptor: int) -> None:
         calls.append(descriptor)
         if len(calls) == 2:  # The first has the beginning of the file.
             raise OSError(28, "No space left on device")
 
-    async def test():
+    async def test() -> None:
         monkeypatch.setattr(journal_module.os, "fdatasync", sync)
         journal = Journal(str(tmp_path / "journal"), 1 << 30, False, Log(), Metrics())
         rows = [Scan(time.time(), "-", "-", str(number), b"1 1", "refused 19 Blank") for number in range(20_000)]

@@ -1,4 +1,6 @@
 """The limits of a gateway: who takes too much, or comes from where nobody was let in, holds up no scanner and no till. Needs python3-websockets."""
+from __future__ import annotations
+
 import asyncio
 import contextlib
 import itertools
@@ -11,13 +13,15 @@ import subprocess
 import sys
 import threading
 import time
+from pathlib import Path
+from typing import Any
 
 import pytest
 import websockets
 
 from gateway_and_scanners import NORILADLE, ROW, Client, Gateway, Serial
 from noriladle import _gateway
-from noriladle._door import Door, Places, who
+from noriladle._door import Door, Place, Places, who
 from noriladle._gateway import CUT, LINES, PAUSE
 from noriladle._log import Log
 from noriladle._scans import Listener, ScanLane
@@ -31,11 +35,11 @@ HANDSHAKE = (b"GET /till-1 HTTP/1.1\r\nHost: localhost\r\nUpgrade: websocket\r\n
              b"Sec-WebSocket-Version: 13\r\n\r\n")
 
 
-def descriptors(gateway):
+def descriptors(gateway: Gateway) -> int:
     return len(os.listdir(f"/proc/{gateway.process.pid}/fd"))
 
 
-def scans(gateway, lane, most=0.1):
+def scans(gateway: Gateway, lane: str, most: float = 0.1) -> float:
     """A scanner and a till of a lane work, and each line comes within 100 ms. Returns the longest wait."""
     longest = 0.0
     with gateway.watch(lane) as till, gateway.unix_client() as scanner:
@@ -54,7 +58,7 @@ def scans(gateway, lane, most=0.1):
 
 
 @pytest.mark.parametrize("which", ["web", "port"])
-def test_strangers_over_tcp(tmp_path, which):
+def test_strangers_over_tcp(tmp_path: Path, which: str) -> None:
     """1,100 of them, silent or not, take few descriptors; the UNIX socket goes on, and they leave no line in the log."""
     with Gateway(tmp_path, "--web", "0", "--metrics", "0") as gateway, contextlib.ExitStack() as strangers:
         alone = scans(gateway, "till-1", 1)
@@ -68,9 +72,9 @@ def test_strangers_over_tcp(tmp_path, which):
         assert page(gateway, "/readyz") == (200, "ready\n")
 
 
-def test_pages_are_counted(tmp_path):
+def test_pages_are_counted(tmp_path: Path) -> None:
     """Those above the limit are refused in the handshake."""
-    async def test(port):
+    async def test(port: int) -> None:
         pages = [await websockets.connect(f"ws://127.0.0.1:{port}/till-1") for _ in range(5)]
         with pytest.raises(websockets.InvalidStatusCode, match="503"):
             await websockets.connect(f"ws://127.0.0.1:{port}/till-1")
@@ -84,7 +88,7 @@ def test_pages_are_counted(tmp_path):
 
 
 @pytest.mark.limit(60)
-def test_a_page_that_answers_nothing(tmp_path):
+def test_a_page_that_answers_nothing(tmp_path: Path) -> None:
     """Its browser was stopped: within 20 seconds it is a till no more."""
     with Gateway(tmp_path, "--web", "0", "--metrics", "0", port=False) as gateway, Client(("127.0.0.1", gateway.ports["web"])) as client:
         client.send(HANDSHAKE)
@@ -111,7 +115,7 @@ sys.stdin.read()
 """
 
 
-def hold(gateway, count, said, user=None):
+def hold(gateway: Gateway, count: int, said: str, user: int | None = None) -> subprocess.Popen[str]:
     """Another program, which holds this many connections until its standard input ends."""
     its = subprocess.Popen([sys.executable, "-c", HOLD, gateway.unix, str(count), said], stdin=subprocess.PIPE, stdout=subprocess.PIPE, text=True, user=user)
     assert its.stdout.readline() == "held\n"
@@ -119,7 +123,7 @@ def hold(gateway, count, said, user=None):
 
 
 @pytest.mark.skipif(os.geteuid() != 0, reason="only root asks as other users")
-def test_a_user_who_takes_all(open_folder):  # noqa: F811
+def test_a_user_who_takes_all(open_folder: Path) -> None:  # noqa: F811
     """One user's limit is no other's."""
     with Gateway(open_folder, "--each", "20", port=False) as gateway:
         os.chmod(gateway.unix, 0o666)
@@ -128,7 +132,7 @@ def test_a_user_who_takes_all(open_folder):  # noqa: F811
 
 
 @pytest.mark.skipif(os.geteuid() != 0, reason="only root connects as other users")
-def test_spare_places_of_all_users(open_folder):  # noqa: F811
+def test_spare_places_of_all_users(open_folder: Path) -> None:  # noqa: F811
     """Four users may hold eight each, and a fifth has none."""
     with Gateway(open_folder, "--connections", "8", "--each", "8", port=False) as gateway, contextlib.ExitStack() as stack:
         os.chmod(gateway.unix, 0o666)
@@ -144,7 +148,7 @@ def test_spare_places_of_all_users(open_folder):  # noqa: F811
         assert its.line() == "closed: there are 8 connections\n"
 
 
-def test_scanners_have_a_place_when_there_is_no_other(tmp_path):
+def test_scanners_have_a_place_when_there_is_no_other(tmp_path: Path) -> None:
     """Though one user has taken every place; whatever else comes is told why not."""
     with Gateway(tmp_path, "--connections", "8", "--each", "8", "--metrics", "0", port=False) as gateway:
         time.sleep(0.5)
@@ -168,7 +172,7 @@ def test_scanners_have_a_place_when_there_is_no_other(tmp_path):
         gateway.waits_for(connections=0)
 
 
-def test_tcp_leaves_places_to_the_unix_socket(tmp_path):
+def test_tcp_leaves_places_to_the_unix_socket(tmp_path: Path) -> None:
     with Gateway(tmp_path, "--connections", "20", "--each", "20") as gateway:
         time.sleep(0.5)
         far = [gateway.connect() for _ in range(15)]
@@ -183,7 +187,7 @@ def test_tcp_leaves_places_to_the_unix_socket(tmp_path):
             assert client.ask(ROW) == f"0 {READ}\n"
 
 
-def test_a_user_or_an_address_has_its_limit(tmp_path):
+def test_a_user_or_an_address_has_its_limit(tmp_path: Path) -> None:
     with Gateway(tmp_path, "--each", "4", "--metrics", "0") as gateway:
         time.sleep(0.5)
         far = [gateway.connect() for _ in range(4)]
@@ -198,7 +202,7 @@ def test_a_user_or_an_address_has_its_limit(tmp_path):
             client.__exit__()
 
 
-def test_limits_change_at_work(tmp_path):
+def test_limits_change_at_work(tmp_path: Path) -> None:
     """By a reload, for those that come then."""
     file = tmp_path / "gateway.toml"
     file.write_text("each = 2\n")
@@ -216,7 +220,7 @@ def test_limits_change_at_work(tmp_path):
             assert late.line() == "closed: address 127.0.0.1 has 3 connections\n"
 
 
-def test_each_place_has_its_descriptors(tmp_path):
+def test_each_place_has_its_descriptors(tmp_path: Path) -> None:
     """Whatever limit the gateway was started with; also places that a reload makes."""
     file, (soft, hard) = tmp_path / "gateway.toml", resource.getrlimit(resource.RLIMIT_NOFILE)
     file.write_text("connections = 300\n")
@@ -243,7 +247,7 @@ def test_each_place_has_its_descriptors(tmp_path):
     ("0.0.0.0", ["tls", "rights"], ""), ("0.0.0.0", ["tls", "ca"], ""), ("0.0.0.0", ["anyone"], ""), ("127.0.0.1", [], ""), ("127.0.0.2", [], ""),
     ("localhost", [], ""),
 ])
-def test_a_port_for_other_machines(tmp_path, host, more, wanted):
+def test_a_port_for_other_machines(tmp_path: Path, host: str, more: list[str], wanted: str) -> None:
     """Without rights or without TLS it is refused, unless the operator says so."""
     words = ["--host", host, "--port", "0"]
     if "tls" in more:
@@ -264,7 +268,7 @@ def test_a_port_for_other_machines(tmp_path, host, more, wanted):
         process.communicate(timeout=20)
 
 
-def test_a_reload_opens_no_port_to_everyone(tmp_path):
+def test_a_reload_opens_no_port_to_everyone(tmp_path: Path) -> None:
     """It refuses the table that a start would."""
     key, file = Authority(tmp_path, "shop").issue("gateway")
     words = rights(tmp_path, '"user 0" = "rows"')
@@ -280,18 +284,19 @@ def test_a_reload_opens_no_port_to_everyone(tmp_path):
     ("2001:db8::1", "network 2001:db8::/64"), ("2001:db8::ffff:1%eth0", "network 2001:db8::/64"), ("2001:db8:0:1::1", "network 2001:db8:0:1::/64"),
     ("::1", "address ::1"), ("10.0.0.7", "address 10.0.0.7"),
 ])
-def test_whose_a_connection_is(address, whose):
+def test_whose_a_connection_is(address: str, whose: str) -> None:
     """A machine has a whole network of IPv6."""
     class Socket:
         family = socket.AF_INET6 if ":" in address else socket.AF_INET
 
-        def getpeername(self):
+        def getpeername(self) -> tuple[str, int]:
             return address, 4711
 
-    assert who(Socket()) == whose
+    its: Any = Socket()
+    assert who(its) == whose
 
 
-def test_the_lock_follows_no_link(tmp_path):
+def test_the_lock_follows_no_link(tmp_path: Path) -> None:
     """A file that a link at the lock's place points to keeps what it has; so has a lock that was left, and a pipe there stops nobody."""
     target, lock = tmp_path / "target", tmp_path / "hub.lock"
     target.write_text("of somebody else")
@@ -306,7 +311,7 @@ def test_the_lock_follows_no_link(tmp_path):
     assert lock.read_text() == "left"
 
 
-def test_a_file_in_the_socket_s_place_is_kept(tmp_path):
+def test_a_file_in_the_socket_s_place_is_kept(tmp_path: Path) -> None:
     (tmp_path / "hub").write_text("of somebody else")
     ran = subprocess.run([*NORILADLE, "gateway", "--unix", str(tmp_path / "hub")], capture_output=True, text=True, timeout=20)
     assert (ran.returncode, ran.stderr) == (1, f"noriladle: {tmp_path}/hub: Address already in use\n")
@@ -317,7 +322,7 @@ def test_a_file_in_the_socket_s_place_is_kept(tmp_path):
     b"POST / HTTP/1.1\r\nHost: x\r\nContent-Type: text/plain\r\n\r\nscan till-1\n0\n0 ]E09501101530003\n",
     b"GET /x HTTP/1.1\r\nHost: x\r\n\r\n", b"OPTIONS * HTTP/1.0\r\n\r\n",
 ])
-def test_a_page_of_another_site_takes_no_lane(tmp_path, sent):
+def test_a_page_of_another_site_takes_no_lane(tmp_path: Path, sent: bytes) -> None:
     """A browser sends such a request to any port."""
     with Gateway(tmp_path, "--metrics", "0") as gateway, gateway.watch("till-1") as till:
         with gateway.connect() as client:
@@ -333,7 +338,7 @@ def test_a_page_of_another_site_takes_no_lane(tmp_path, sent):
     (b"999999999999999999\n", "closed: a scan's number is at most 999999999999999\n"), (b"1000000000000000\n", "closed: a scan's number is at most 999999999999999\n"),
     (b"9999999999999999999999\n", "closed: a scan is a number, a blank and a text\n"), (b"-1\n", "closed: a scan is a number, a blank and a text\n"),
 ])
-def test_a_number_that_is_too_large(tmp_path, sent, wanted):
+def test_a_number_that_is_too_large(tmp_path: Path, sent: bytes, wanted: str) -> None:
     """The lane goes on with the next scanner."""
     with Gateway(tmp_path, port=False) as gateway:
         with gateway.unix_client() as client:
@@ -342,7 +347,7 @@ def test_a_number_that_is_too_large(tmp_path, sent, wanted):
         scans(gateway, "till-1")
 
 
-def test_the_last_numbers(tmp_path):
+def test_the_last_numbers(tmp_path: Path) -> None:
     """A lane whose numbers end begins anew, with a scanner's program too."""
     with Gateway(tmp_path, port=False) as gateway:
         with gateway.unix_client() as client:
@@ -359,14 +364,15 @@ def test_the_last_numbers(tmp_path):
 
 
 @pytest.mark.parametrize("count", [1, 4])
-def test_a_scanner_that_floods(tmp_path, count):
+def test_a_scanner_that_floods(tmp_path: Path, count: int) -> None:
     """Each lane has its turn: another lane waits at most 100 ms, and has no scan without an answer."""
     with Gateway(tmp_path, port=False) as gateway, gateway.watch("good") as till, gateway.unix_client() as scanner:
         scanner.send(b"scan good\n0\n")
         assert scanner.line() == "0 next\n" == till.line()
-        numbers, times = itertools.count(), {}
+        numbers = itertools.count()
+        times: dict[str, list[float]] = {}
 
-        def measure(when):
+        def measure(when: str) -> None:
             times[when] = []
             for number in itertools.islice(numbers, 200):
                 begin = time.perf_counter()
@@ -385,7 +391,7 @@ def test_a_scanner_that_floods(tmp_path, count):
         assert max(times["beside"]) < 100 + 2 * max(times["alone"])
 
 
-def test_many_lanes_that_wait(tmp_path):
+def test_many_lanes_that_wait(tmp_path: Path) -> None:
     """More than the turns that they share: each has its least share."""
     with Gateway(tmp_path, "--each", "100", port=False) as gateway, contextlib.ExitStack() as stack:
         scanners = [stack.enter_context(gateway.unix_client()) for _ in range(80)]
@@ -400,7 +406,7 @@ def test_many_lanes_that_wait(tmp_path):
             assert [scanner.line() for _ in range(20)] == [f"{number} {READ}\n" for number in range(20)]
 
 
-def test_more_lanes_than_there_are(tmp_path):
+def test_more_lanes_than_there_are(tmp_path: Path) -> None:
     """Lanes that nobody uses any more make room for the 257th; one that a till watches stays, and so do those of scanners."""
     with Gateway(tmp_path, "--connections", "600", "--each", "300", port=False) as gateway, contextlib.ExitStack() as stack:
         till = stack.enter_context(gateway.watch("till-1"))
@@ -418,7 +424,7 @@ def test_more_lanes_than_there_are(tmp_path):
 
 
 @pytest.fixture
-def taken(tmp_path, monkeypatch):
+def taken(tmp_path: Path, monkeypatch: pytest.MonkeyPatch) -> Path:
     """What a hub gets that takes all and answers nothing."""
     taken, hub = tmp_path / "taken", tmp_path / "gs1_hub"
     hub.write_text(f"#!/bin/sh\nexec cat > {taken}\n")
@@ -427,7 +433,7 @@ def taken(tmp_path, monkeypatch):
     return taken
 
 
-def test_a_lane_has_few_scans_under_way(tmp_path, taken):
+def test_a_lane_has_few_scans_under_way(tmp_path: Path, taken: Path) -> None:
     """A scan of another lane waits for these alone. Each two seconds they are unread, and others have their turn."""
     with Gateway(tmp_path, port=False) as gateway, gateway.unix_client() as client:
         assert client.ask(b"scan till-1\n") == "0 next\n"
@@ -439,7 +445,7 @@ def test_a_lane_has_few_scans_under_way(tmp_path, taken):
         assert 64 <= count <= 64 * (1 + (time.monotonic() - begin) // 2)
 
 
-def test_programs_share_the_rows_under_way(tmp_path, taken):
+def test_programs_share_the_rows_under_way(tmp_path: Path, taken: Path) -> None:
     """However many there are, the hub has few rows of theirs, so a scan waits for few."""
     with Gateway(tmp_path) as gateway, contextlib.ExitStack() as programs:
         wanted, until = 0, time.monotonic() + 20
@@ -453,7 +459,7 @@ def test_programs_share_the_rows_under_way(tmp_path, taken):
         assert taken.read_bytes().count(b",1 1\n") == wanted < 256
 
 
-def test_lines_without_an_end_take_turns(tmp_path):
+def test_lines_without_an_end_take_turns(tmp_path: Path) -> None:
     """All that send them together are read no faster than one of them."""
     with Gateway(tmp_path) as gateway, contextlib.ExitStack() as clients:
         held = [clients.enter_context(gateway.unix_client()).socket for _ in range(20)]
@@ -471,23 +477,23 @@ def test_lines_without_an_end_take_turns(tmp_path):
         assert sent - 2 * room < (took / PAUSE + 2 * len(held)) * CUT
 
 
-def test_twenty_endless_lines_take_turns(monkeypatch):
+def test_twenty_endless_lines_take_turns(monkeypatch: pytest.MonkeyPatch) -> None:
     """The same without sockets, so that it does not depend on the machine's speed."""
     monkeypatch.setattr(_gateway, "PAUSE", 0.05)
     reads = itertools.count()
 
     class Endless:
-        async def read(self, most):
+        async def read(self, most: int) -> bytes:
             next(reads)
             return b"1" * most
 
-    async def skip(lock):
-        its = object.__new__(_gateway.Connection)
+    async def skip(lock: asyncio.Lock) -> None:
+        its: Any = object.__new__(_gateway.Connection)
         its.reader = Endless()
         async for _ in its.turns(lock):
             pass
 
-    async def test():
+    async def test() -> None:
         lock, begin = asyncio.Lock(), time.monotonic()
         _, tasks = await asyncio.wait([asyncio.ensure_future(skip(lock)) for _ in range(20)], timeout=1)
         count, took = next(reads), time.monotonic() - begin
@@ -498,13 +504,13 @@ def test_twenty_endless_lines_take_turns(monkeypatch):
     asyncio.run(test())
 
 
-def test_numbers_without_a_scan_leave_others_their_turn():
+def test_numbers_without_a_scan_leave_others_their_turn() -> None:
     """A scanner that sends 10,000 numbers of a next scan at once: the loop runs others all the while."""
-    async def test():
+    async def test() -> None:
         its, ends, turns = object.__new__(_gateway.Scanner), asyncio.Event(), itertools.count()
         its._lane, its._listener = ScanLane("till-1", None), Listener(lambda line: None)
 
-        async def other():
+        async def other() -> None:
             while not ends.is_set():
                 next(turns)
                 await asyncio.sleep(0)
@@ -518,12 +524,12 @@ def test_numbers_without_a_scan_leave_others_their_turn():
     asyncio.run(test())
 
 
-def test_clients_that_wait_come_in_by_fours():
+def test_clients_that_wait_come_in_by_fours() -> None:
     """Others have their turn between."""
-    async def serve(place, reader, writer):
+    async def serve(place: Place, reader: asyncio.StreamReader, writer: asyncio.StreamWriter) -> None:
         await asyncio.sleep(60)
 
-    async def test():
+    async def test() -> None:
         listening, places = socket.create_server(("127.0.0.1", 0), backlog=64), Places(100, 100)
         clients = [socket.create_connection(listening.getsockname()) for _ in range(40)]
         door = Door(listening, places, serve, Log(), lambda: None)
@@ -537,7 +543,7 @@ def test_clients_that_wait_come_in_by_fours():
     asyncio.run(asyncio.wait_for(test(), 30))
 
 
-def test_a_till_that_takes_nothing_has_no_place(tmp_path):
+def test_a_till_that_takes_nothing_has_no_place(tmp_path: Path) -> None:
     """It does not take the reason why it is closed, either."""
     with Gateway(tmp_path, "--idle", "1", "--metrics", "0", port=False) as gateway, gateway.watch("till-1"), gateway.unix_client() as scanner:
         assert scanner.ask(b"scan till-1\n") == "0 next\n"
@@ -551,13 +557,13 @@ def test_a_till_that_takes_nothing_has_no_place(tmp_path):
         gateway.waits_for(connections=1)
 
 
-def flood(path, count):
+def flood(path: str, count: int) -> None:
     """Scanners that send as fast as they can, and read what they get, until this program is ended."""
-    def drain(its):
+    def drain(its: socket.socket) -> None:
         while its.recv(65_536):
             pass
 
-    def send(its):
+    def send(its: socket.socket) -> None:
         for begin in itertools.count(0, 2_000):
             its.sendall(b"".join(b"%d %s\n" % (it, EAN) for it in range(begin, begin + 2_000)))
 

@@ -1,4 +1,6 @@
 """Logs that are full or that nobody reads: every client is answered all the same. A full disk is /dev/full."""
+from __future__ import annotations
+
 import fcntl
 import os
 import re
@@ -9,6 +11,8 @@ import socket
 import subprocess
 import time
 import urllib.request
+from pathlib import Path
+from typing import Any
 
 import pytest
 
@@ -25,7 +29,7 @@ COUNT = 1_500
 class Blocked:
     """A gateway whose standard error goes to a file or a pipe; it logs everything."""
 
-    def __init__(self, folder, error, *words):
+    def __init__(self, folder: Path, error: Any, *words: str) -> None:
         self.unix = str(folder / "hub")
         self.process = subprocess.Popen([*NORILADLE, "gateway", "--year", "2026", "--unix", self.unix, "--log", "all", *words], stderr=error)
         until = time.monotonic() + 20
@@ -33,14 +37,14 @@ class Blocked:
             assert self.process.poll() is None and time.monotonic() < until
             time.sleep(0.02)
 
-    def __enter__(self):
+    def __enter__(self) -> Blocked:
         return self
 
-    def __exit__(self, *_):
+    def __exit__(self, *_: object) -> None:
         self.process.kill()
         self.process.wait()
 
-    def answers(self, count):
+    def answers(self, count: int) -> None:
         """Asks over this many connections, one after the other; a second is the most that each may wait."""
         for number in range(count):
             with Client(self.unix, socket.AF_UNIX) as client:
@@ -48,19 +52,19 @@ class Blocked:
                 assert client.ask(ROW) == f"0 {READ}\n", number
 
 
-def small_pipe():
+def small_pipe() -> tuple[int, int]:
     """A pipe of a page."""
     unread, end = os.pipe()
     fcntl.fcntl(end, 1031, 4096)  # F_SETPIPE_SZ
     return unread, end
 
 
-def test_a_log_on_a_full_disk(tmp_path):
+def test_a_log_on_a_full_disk(tmp_path: Path) -> None:
     with open("/dev/full", "w") as full, Blocked(tmp_path, full) as gateway:
         gateway.answers(300)
 
 
-def test_a_log_whose_disk_has_room_again(tmp_path):
+def test_a_log_whose_disk_has_room_again(tmp_path: Path) -> None:
     """Lines are written again, and one says how many are missing."""
     with open(tmp_path / "log", "w+") as log, Blocked(tmp_path, log) as gateway:
         gateway.answers(5)
@@ -77,7 +81,7 @@ def test_a_log_whose_disk_has_room_again(tmp_path):
         assert re.fullmatch(r"\S+Z 40 log lines were dropped", said[0]) and [line.split()[1] for line in said[1:]] == ["connected", "closed"], said
 
 
-def test_a_log_that_nobody_reads(tmp_path):
+def test_a_log_that_nobody_reads(tmp_path: Path) -> None:
     unread, end = small_pipe()
     with Blocked(tmp_path, end) as gateway:
         gateway.answers(COUNT)
@@ -88,18 +92,18 @@ def test_a_log_that_nobody_reads(tmp_path):
     os.close(unread)
 
 
-def free_port():
+def free_port() -> int:
     with socket.socket() as free:
         free.bind(("127.0.0.1", 0))
         return free.getsockname()[1]
 
 
-def test_lines_without_room_are_counted(tmp_path, monkeypatch):
+def test_lines_without_room_are_counted(tmp_path: Path, monkeypatch: pytest.MonkeyPatch) -> None:
     """The number says how many; when the log has room again a line does, and later lines follow."""
     port = free_port()
     unread, end = small_pipe()
     with Blocked(tmp_path, end, "--metrics", str(port)) as gateway:
-        def dropped():
+        def dropped() -> float:
             with urllib.request.urlopen(f"http://127.0.0.1:{port}/metrics", timeout=2) as told:
                 return next(float(line.split()[1]) for line in told.read().decode().splitlines()
                             if line.startswith("noriladle_log_lines_dropped_total"))
@@ -121,7 +125,7 @@ def test_lines_without_room_are_counted(tmp_path, monkeypatch):
     os.close(unread)
 
 
-def test_levels_for_journald(tmp_path, monkeypatch):
+def test_levels_for_journald(tmp_path: Path, monkeypatch: pytest.MonkeyPatch) -> None:
     """They stand in place of the time, which it adds itself."""
     monkeypatch.setenv("JOURNAL_STREAM", "8:1")
     file = tmp_path / "gateway.toml"
@@ -137,7 +141,7 @@ def test_levels_for_journald(tmp_path, monkeypatch):
     gateway.process.communicate(timeout=20)
 
 
-def test_what_a_client_sends_ends_no_line_of_the_log(tmp_path):
+def test_what_a_client_sends_ends_no_line_of_the_log(tmp_path: Path) -> None:
     """Nor does it reach the terminal of who reads it."""
     gateway = Gateway(tmp_path, "--log", "all", *rights(tmp_path, '"user 4711" = "rows"'))
     with gateway.unix_client() as client:
@@ -147,7 +151,7 @@ def test_what_a_client_sends_ends_no_line_of_the_log(tmp_path):
     assert all(re.fullmatch("[ -~]*", line) for line in lines) and [line[25:].split(" ")[0] for line in lines if "2026-01-01" in line] == ["closed"]
 
 
-def test_a_line_that_is_taken_in_parts():
+def test_a_line_that_is_taken_in_parts() -> None:
     """By a socket that somebody else has set not to block."""
     here, there = socket.socketpair()
     with here, there, there.makefile() as read:
@@ -159,7 +163,7 @@ def test_a_line_that_is_taken_in_parts():
         assert [len(read.readline()) for _ in range(2)] == [1_000_001, 2]
 
 
-def test_a_journal_that_was_stopped(tmp_path):
+def test_a_journal_that_was_stopped(tmp_path: Path) -> None:
     """journald holds the other end of a socket, and takes nothing while it is stopped."""
     here, there = socket.socketpair(socket.AF_UNIX)
     here.setsockopt(socket.SOL_SOCKET, socket.SO_SNDBUF, 4096)
@@ -168,7 +172,7 @@ def test_a_journal_that_was_stopped(tmp_path):
 
 
 @pytest.mark.parametrize("how", ["full", "unread"])
-def test_a_scanner_whose_lines_nobody_takes(tmp_path, how):
+def test_a_scanner_whose_lines_nobody_takes(tmp_path: Path, how: str) -> None:
     """The till has every scan."""
     with Gateway(tmp_path, port=False) as gateway, gateway.watch("till-1") as till:
         unread, end = small_pipe()
@@ -184,7 +188,7 @@ def test_a_scanner_whose_lines_nobody_takes(tmp_path, how):
         os.close(unread)
 
 
-def test_what_libraries_say_is_in_the_log(tmp_path):
+def test_what_libraries_say_is_in_the_log(tmp_path: Path) -> None:
     """No descriptor is left: the gateway says so in lines of its log, without a traceback, and lets clients in when there is one again."""
     gateway = Gateway(tmp_path, "--metrics", "0")
     pid = gateway.process.pid

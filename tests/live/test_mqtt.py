@@ -1,4 +1,6 @@
 """Devices that speak MQTT, joined to `live` by mosquitto's own clients, as docs/HUB.md says. Needs mosquitto, mosquitto-clients."""
+from __future__ import annotations
+
 import contextlib
 import os
 import select
@@ -6,6 +8,7 @@ import signal
 import socket
 import subprocess
 import time
+from typing import Iterator
 
 import pytest
 
@@ -15,7 +18,7 @@ LIMIT = 60
 
 
 @pytest.fixture
-def port():
+def port() -> Iterator[str]:
     """The port of a broker on loopback."""
     with socket.socket() as free:
         free.bind(("127.0.0.1", 0))
@@ -25,12 +28,12 @@ def port():
         broker.terminate()
 
 
-def publish(port, topic, text, *more):
+def publish(port: str, topic: str, text: str, *more: str) -> None:
     while subprocess.run(["mosquitto_pub", "-p", port, "-q", "1", "-t", topic, "-m", text, *more], stderr=subprocess.DEVNULL).returncode:
         time.sleep(0.05)
 
 
-def commands(port):
+def commands(port: str) -> tuple[str, str]:
     """The two command lines of docs/HUB.md, for this broker: what answers, and what counts retained messages."""
     lines = [line.strip() for line in (ROOT / "docs/HUB.md").read_text().splitlines() if line.startswith("    mosquitto_sub ")]
     answers, counts = [line.replace("./gs1_hub", PROGRAM).replace("mosquitto_sub", f"mosquitto_sub -p {port}") for line in lines]
@@ -38,7 +41,7 @@ def commands(port):
 
 
 @contextlib.contextmanager
-def joined(port):
+def joined(port: str) -> Iterator[Iterator[str]]:
     """The clients and the hub, and the answers that are published."""
     words = ["mosquitto_sub", "-p", port, "-q", "1", "-t", "shop/answers"]
     with subprocess.Popen(["bash", "-c", commands(port)[0]], start_new_session=True) as line, \
@@ -54,14 +57,14 @@ def joined(port):
             answers.terminate()
 
 
-def test_rows_that_are_published(port):
+def test_rows_that_are_published(port: str) -> None:
     """Each is answered before the next is published."""
     publish(port, "shop/begun", "")
     with joined(port) as answers:
         follow(port, answers)
 
 
-def test_rows_that_are_retained(port):
+def test_rows_that_are_retained(port: str) -> None:
     """The broker sends them again at each start; they are passed over then, and a command counts them."""
     publish(port, "shop/rows", f"2,{EAN13}", "-r")
     for number in range(2):
@@ -71,7 +74,7 @@ def test_rows_that_are_retained(port):
     assert subprocess.run(commands(port)[1], shell=True, capture_output=True, text=True).stdout == "1\n"
 
 
-def follow(port, answers):
+def follow(port: str, answers: Iterator[str]) -> None:
     """Publishes records one by one, and reads what is answered to each."""
     for record, wanted in [
         (f"2,{EAN13}", "2 0 ]E0 01=09501101530003"),

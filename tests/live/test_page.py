@@ -1,4 +1,6 @@
 """A till that is a web page, in headless Chromium, with a simulated scanner. Needs chromium and python3-websockets."""
+from __future__ import annotations
+
 import argparse
 import asyncio
 import functools
@@ -11,6 +13,8 @@ import socket
 import sys
 import threading
 import time
+from pathlib import Path
+from typing import Any, Iterator
 
 import pytest
 import websockets
@@ -33,18 +37,18 @@ MESSAGE = "document.getElementById('message').textContent"
 
 
 @pytest.fixture
-def gateway(tmp_path):
+def gateway(tmp_path: Path) -> Iterator[Gateway]:
     with Gateway(tmp_path, "--web", "0", port=False) as it:
         yield it
 
 
 class Quiet(http.server.SimpleHTTPRequestHandler):
-    def log_message(self, *_):
+    def log_message(self, *_: object) -> None:
         pass
 
 
 @pytest.fixture
-def page():
+def page() -> Iterator[str]:
     """The address of the page, on a server of this machine."""
     with http.server.ThreadingHTTPServer(("127.0.0.1", 0), functools.partial(Quiet, directory=str(ROOT / "examples/till"))) as server:
         threading.Thread(target=server.serve_forever, daemon=True).start()
@@ -52,14 +56,14 @@ def page():
         server.shutdown()
 
 
-def test_a_page_sells_what_is_scanned(gateway, page, tmp_path):
+def test_a_page_sells_what_is_scanned(gateway: Gateway, page: str, tmp_path: Path) -> None:
     """Articles with their prices and the total; what is refused, has no price or is lost is said; and it goes on with the next gateway.
 
     With PICTURE in the environment it leaves a picture of the page there."""
     browser = Browser(f"{page}?port={gateway.ports['web']}&lane=till-1", width=760, height=560, started=READY)
     try:
         with Serial("--gateway", gateway.unix, "--lane", "till-1") as scanner:
-            def scan(text, message):
+            def scan(text: bytes, message: str) -> None:
                 scanner.send(text + b"\r")
                 browser.until(f"{MESSAGE} === {message!r}", 10)
 
@@ -93,9 +97,9 @@ def test_a_page_sells_what_is_scanned(gateway, page, tmp_path):
         browser.close()
 
 
-def told(gateway, path, **more):
+def told(gateway: Gateway, path: str, **more: Any) -> Any:
     """The first line that a page of an origin gets, or the reason why it is closed."""
-    async def ask():
+    async def ask() -> Any:
         try:
             async with websockets.connect(f"ws://127.0.0.1:{gateway.ports['web']}{path}", **more) as page:
                 return await asyncio.wait_for(page.recv(), 1)
@@ -113,17 +117,17 @@ def told(gateway, path, **more):
     ("https://evil.example", 403), ("null", 403),
     ("http://localhost.evil.example", 403),
 ])
-def test_pages_of_others_may_not_watch(gateway, origin, wanted):
+def test_pages_of_others_may_not_watch(gateway: Gateway, origin: str | None, wanted: int | str) -> None:
     assert told(gateway, "/till-1", origin=origin) == wanted
 
 
-def test_pages_of_a_named_origin_may_watch(tmp_path):
+def test_pages_of_a_named_origin_may_watch(tmp_path: Path) -> None:
     with Gateway(tmp_path, "--web", "0", "--origin", "https://till.example", port=False) as gateway:
         assert told(gateway, "/till-1", origin="https://till.example") == "it waits"
         assert told(gateway, "/till-1", origin="https://tills.example") == 403
 
 
-def test_what_a_reload_changes(tmp_path):
+def test_what_a_reload_changes(tmp_path: Path) -> None:
     """Whose pages may watch, how many lanes are kept, and what is logged."""
     file = tmp_path / "gateway.toml"
     file.write_text('lanes = 3\nkept = 1\norigin = ["https://one.example", "https://two.example"]\n')
@@ -141,16 +145,16 @@ def test_what_a_reload_changes(tmp_path):
     gateway.process.communicate(timeout=20)
 
 
-def test_the_form_of_a_page(gateway):
+def test_the_form_of_a_page(gateway: Gateway) -> None:
     """It has the time if the page says form=2, and no other word. The lane's name may be quoted."""
     for lane in ("till-1", "till%2D1"):
         assert re.fullmatch(r"- \d+\.\d{3} next -", told(gateway, f"/{lane}?form=2"))
     assert [told(gateway, f"/till-1{words}") for words in ("", "?form=1", "?form=3", "?form=2&form=2")] == ["it waits"] * 4
 
 
-def test_a_page_stays(gateway):
+def test_a_page_stays(gateway: Gateway) -> None:
     """It has five seconds to ask for its lane, and then as long as it likes."""
-    async def test():
+    async def test() -> None:
         async with websockets.connect(f"ws://127.0.0.1:{gateway.ports['web']}/till-1?form=2") as page:
             for _ in range(3):
                 assert re.fullmatch(r"- \d+\.\d{3} next -", await page.recv())
@@ -158,8 +162,8 @@ def test_a_page_stays(gateway):
     asyncio.run(asyncio.wait_for(test(), 30))
 
 
-def test_a_page_that_has_gone_is_forgotten():
-    async def test():
+def test_a_page_that_has_gone_is_forgotten() -> None:
+    async def test() -> None:
         async with Hub(1, 1, 2026) as hub:
             gateway = _gateway.Gateway(hub, 60, 0, Places(10, 10), Log(), Metrics())
             server = await _web.serve(gateway, 0, argparse.Namespace(origin=[]))
@@ -176,13 +180,13 @@ def test_a_page_that_has_gone_is_forgotten():
 
 
 @pytest.mark.parametrize("path", ["/", "/../hub", "/a%20b", "/" + "x" * 65])
-def test_no_name_of_a_lane(gateway, path):
+def test_no_name_of_a_lane(gateway: Gateway, path: str) -> None:
     assert told(gateway, path) == "a lane's name has up to 64 letters, digits and . _ : -"
 
 
-def test_a_page_that_takes_nothing_holds_up_no_other(tmp_path):
+def test_a_page_that_takes_nothing_holds_up_no_other(tmp_path: Path) -> None:
     """And is no till any more, once the buffers of its socket are full."""
-    async def test(gateway):
+    async def test(gateway: Gateway) -> None:
         small = socket.socket()
         small.setsockopt(socket.SOL_SOCKET, socket.SO_RCVBUF, 4_096)
         small.connect(("127.0.0.1", gateway.ports["web"]))

@@ -2,6 +2,8 @@
 
 Every till is compared with one run of `gs1_hub lanes` on the same rows.
 """
+from __future__ import annotations
+
 import asyncio
 import os
 import random
@@ -10,6 +12,8 @@ import subprocess
 import sys
 import threading
 import time
+from pathlib import Path
+from typing import Any, Sequence
 
 import pytest
 
@@ -25,11 +29,11 @@ KILLS = 36
 class Harm:
     """Kills workers and nodes, and puts workers to sleep, as the seed says."""
 
-    def __init__(self, cluster, workers, seed):
+    def __init__(self, cluster: Cluster, workers: Workers, seed: int) -> None:
         self.cluster, self.workers, self.random = cluster, workers, random.Random(seed)
         self.killed = self.slept = self.nodes = 0
 
-    async def until(self, done):
+    async def until(self, done: asyncio.Event) -> None:
         while not done.is_set():
             await asyncio.sleep(self.random.uniform(0, 0.5))
             name = self.random.choice(self.workers.names)
@@ -42,31 +46,31 @@ class Harm:
             if self.nodes < 3 and self.killed >= 9 * (self.nodes + 1):
                 await self.kill_node(self.cluster.ports[self.nodes])
 
-    async def put_to_sleep(self, worker):
+    async def put_to_sleep(self, worker: subprocess.Popen[str]) -> None:
         worker.send_signal(signal.SIGSTOP)
         await asyncio.sleep(self.random.uniform(0.7, 1.2))
         worker.send_signal(signal.SIGCONT)
         self.slept += 1
 
-    def kill(self, name):
+    def kill(self, name: str) -> None:
         self.workers.kill(name)
         self.killed += 1
         if self.random.random() < 0.7:
             self.workers.start(name)
 
-    async def kill_node(self, port):
+    async def kill_node(self, port: int) -> None:
         await asyncio.to_thread(self.cluster.kill, port)
         await asyncio.sleep(self.random.uniform(0.2, 3))
         await asyncio.to_thread(self.cluster.start, port)
         self.nodes += 1
 
 
-async def read_while_killed(address, asked, harm):
+async def read_while_killed(address: str, asked: dict[str, list[str]], harm: Harm) -> tuple[dict[str, list[tuple[int, str]]], list[Till]]:
     """A till of each lane, which takes its answers no faster than workers are killed."""
     shop, done, tills = Shop(address), asyncio.Event(), []
     harming = asyncio.create_task(harm.until(done))
 
-    async def one(lane):
+    async def one(lane: str) -> tuple[str, list[Any]]:
         till, got = Till(shop, lane, most=48), []
         async for answer in till.read_all(asked[lane]):
             got.append(answer)
@@ -84,7 +88,7 @@ async def read_while_killed(address, asked, harm):
 
 @pytest.mark.limit(180)
 @pytest.mark.parametrize("seed", range(SEED, SEED + 3))
-def test_workers_and_nodes_are_killed(seed):
+def test_workers_and_nodes_are_killed(seed: int) -> None:
     asked, wanted = rows_of(COUNT, seed)
     with Cluster() as cluster, Workers(cluster.address, 3) as workers:
         harm = Harm(cluster, workers, seed)
@@ -95,14 +99,14 @@ def test_workers_and_nodes_are_killed(seed):
         assert harm.killed >= KILLS - 1 and harm.nodes == 3 and not any(till.lost for till in tills)
 
 
-def test_a_hub_is_killed():
+def test_a_hub_is_killed() -> None:
     """Its worker ends, with a status that is not 0, and another goes on."""
     asked, wanted = rows_of(COUNT)
     with Cluster() as cluster, Workers(cluster.address, 2) as workers:
-        async def test():
+        async def test() -> dict[str, list[Any]]:
             shop, killed = Shop(cluster.address), asyncio.Event()
 
-            async def one(lane):
+            async def one(lane: str) -> tuple[str, list[Any]]:
                 got = []
                 async for answer in Till(shop, lane, most=64).read_all(asked[lane]):
                     got.append(answer)
@@ -125,17 +129,17 @@ def test_a_hub_is_killed():
         assert worker.stderr.read().strip().endswith("Z the hub has ended, status -9")
 
 
-def test_a_worker_sleeps_with_rows_that_another_answers():
+def test_a_worker_sleeps_with_rows_that_another_answers() -> None:
     """It wakes and writes their answers again: the till gives each once."""
-    async def test(address):
+    async def test(address: str) -> None:
         shop, begun, asleep = Shop(address), asyncio.Event(), asyncio.Event()
 
-        async def slow(texts):
+        async def slow(texts: Sequence[str]) -> list[str]:
             begun.set()
             await asleep.wait()
             return [READ] * len(texts)
 
-        async def quick(texts):
+        async def quick(texts: Sequence[str]) -> list[str]:
             return [READ] * len(texts)
 
         one, two = Worker(shop, "one", slow), Worker(shop, "two", quick)
@@ -156,11 +160,11 @@ def test_a_worker_sleeps_with_rows_that_another_answers():
         asyncio.run(test(cluster.address))
 
 
-def test_a_till_is_started_again():
+def test_a_till_is_started_again() -> None:
     """It goes on with its series, from the row whose answer it had not got; the rows under way are there twice for it."""
     asked, wanted = rows_of(COUNT)
     with Cluster() as cluster, Workers(cluster.address, 1):
-        async def test():
+        async def test() -> list[Any]:
             shop, got = Shop(cluster.address), []
             first = Till(shop, "3")
             async for answer in first.read_all(asked["3"]):
@@ -176,14 +180,14 @@ def test_a_till_is_started_again():
         assert asyncio.run(test()) == wanted["3"]
 
 
-def test_lanes_move_to_another_node():
+def test_lanes_move_to_another_node() -> None:
     """While rows go through, the slot of each lane moves to another node, and on."""
     asked, wanted = rows_of(COUNT)
     with Cluster() as cluster, Workers(cluster.address, 2) as workers:
         names = {port: ask(port, "CLUSTER", "MYID") for port in cluster.ports}
         ended, moved = threading.Event(), []
 
-        def move(lane):
+        def move(lane: str) -> None:
             slot = ask(cluster.ports[0], "CLUSTER", "KEYSLOT", keys.rows(lane))
             old = cluster.holder(keys.rows(lane))
             new = cluster.ports[(cluster.ports.index(old) + 1) % 3]
@@ -196,7 +200,7 @@ def test_lanes_move_to_another_node():
                 ask(port, "CLUSTER", "SETSLOT", slot, "NODE", names[new])
             moved.append(lane)
 
-        def move_all():
+        def move_all() -> None:
             while not ended.is_set():
                 for lane in LANES:
                     move(lane)
@@ -214,13 +218,13 @@ def test_lanes_move_to_another_node():
 
 
 @pytest.mark.limit(120)
-def test_nodes_lose_what_they_had_acknowledged():
+def test_nodes_lose_what_they_had_acknowledged() -> None:
     """As after a power cut with `everysec`: each till still gets the answers to its rows, in order and each once."""
     asked, wanted = rows_of(COUNT)
     with Cluster() as cluster, Workers(cluster.address, 2):
         ended, cut = threading.Event(), []
 
-        def cut_all():
+        def cut_all() -> None:
             for port in cluster.ports * 2:
                 if not ended.wait(0.1):
                     cluster.cut(port, 40_000)
@@ -238,10 +242,11 @@ def test_nodes_lose_what_they_had_acknowledged():
 
 
 @pytest.mark.limit(40)
-def test_rows_that_vanish_unseen():
+def test_rows_that_vanish_unseen() -> None:
     """No connection ends, and the rows are not there any more: the till looks after 1.5 seconds, and submits them again."""
-    async def test(address):
-        shop, told = Shop(address), []
+    async def test(address: str) -> None:
+        shop = Shop(address)
+        told: list[str] = []
         till = Till(shop, "3", note=told.append)
         reading = asyncio.ensure_future(till.read(EAN13))
         while not await shop.ask(keys.rows("3"), "XLEN", keys.rows("3")):
@@ -257,10 +262,10 @@ def test_rows_that_vanish_unseen():
 
 
 @pytest.mark.limit(40)
-def test_a_clock_that_is_behind():
+def test_a_clock_that_is_behind() -> None:
     """A node whose clock is two minutes behind takes over, so its answers have lower IDs than those that the till has read."""
     with Cluster(nodes=1) as cluster, Workers(cluster.address, 1):
-        async def test():
+        async def test() -> None:
             shop = Shop(cluster.address)
             till = Till(shop, "3")
             assert await till.read(EAN13) == READ
@@ -273,26 +278,26 @@ def test_a_clock_that_is_behind():
         asyncio.run(test())
 
 
-def test_two_tills_on_a_lane():
+def test_two_tills_on_a_lane() -> None:
     """Each gets the answers to its own rows."""
     with Cluster(nodes=1) as cluster, Workers(cluster.address, 1):
-        async def test():
+        async def test() -> None:
             shop = Shop(cluster.address)
             one, two = Till(shop, "3"), Till(shop, "3")
             assert one.series != two.series
             for _ in range(20):
-                assert await asyncio.gather(one.read(EAN13), two.read("100")) == [READ, "refused 19 Blank"]
+                assert [*await asyncio.gather(one.read(EAN13), two.read("100"))] == [READ, "refused 19 Blank"]
             assert one.lost == two.lost == one.repeated == two.repeated == one.strange == two.strange == 0
             await shop.close()
 
         asyncio.run(test())
 
 
-def test_a_series_that_another_till_has():
+def test_a_series_that_another_till_has() -> None:
     """Its answers to other rows have other marks: this till drops them, and submits its own rows."""
-    async def test(shop):
+    async def test(shop: keys.Shop) -> None:
         one, two = Till(shop, "3", "f00d"), Till(shop, "3", "f00d")
-        assert await asyncio.gather(one.read(EAN13), two.read("100")) == [READ, "refused 19 Blank"]
+        assert [*await asyncio.gather(one.read(EAN13), two.read("100"))] == [READ, "refused 19 Blank"]
         assert one.strange or two.strange
         await shop.close()
 
@@ -300,18 +305,18 @@ def test_a_series_that_another_till_has():
         asyncio.run(test(Shop(cluster.address)))
 
 
-def test_the_page(tmp_path):
+def test_the_page(tmp_path: Path) -> None:
     """The commands of docs/REDIS.md print what it shows."""
     (tmp_path / "examples").symlink_to(ROOT / "examples")
     (tmp_path / "noriladle").write_text(f'#!/bin/sh\nexec {sys.executable} -m noriladle "$@"\n')
     (tmp_path / "noriladle").chmod(0o755)
     with open(ROOT / "docs" / "REDIS.md") as page:
-        words = [sys.executable, ROOT / "tests" / "using" / "follow_page.py", "docs/REDIS.md"]
+        words = [sys.executable, str(ROOT / "tests" / "using" / "follow_page.py"), "docs/REDIS.md"]
         path = f"{tmp_path}{os.pathsep}{os.environ['PATH']}"
         subprocess.run(words, stdin=page, cwd=tmp_path, check=True, env={**os.environ, "PATH": path})
 
 
-def test_a_row_alone():
+def test_a_row_alone() -> None:
     """One after the other, by two workers; what is answered leaves Redis."""
     asked, wanted = rows_of(2000)
     with Cluster(nodes=1) as cluster, Workers(cluster.address, 2) as workers:
@@ -323,7 +328,7 @@ def test_a_row_alone():
         workers.end()
 
 
-def test_names_of_lanes():
+def test_names_of_lanes() -> None:
     """A name that would be a pattern or a rule of Redis is refused."""
     for name in ("", "a" * 65, "north 0", "x} ~* +@all", "*", "{0}", "é", "a\n"):
         with pytest.raises(ValueError, match="is no name of a lane, which has 1 to 64 of A-Z, a-z, 0-9"):

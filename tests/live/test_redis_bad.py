@@ -1,4 +1,6 @@
 """Bad input and full stores: what Redis, `noriladle worker` and tills do."""
+from __future__ import annotations
+
 import asyncio
 import hashlib
 import os
@@ -7,6 +9,8 @@ import socket
 import subprocess
 import threading
 import time
+from pathlib import Path
+from typing import Any, Callable, Iterator, Sequence
 
 import pytest
 
@@ -25,13 +29,13 @@ NO_ROWS = {
 TEXTS = {"]C110A,B^21C": "]C1 (10)A,B(21)C", "9501101530003": "- (01)09501101530003", "]E09501101530004": "refused 3 CheckDigit"}
 
 
-def beside(lane):
+def beside(lane: str) -> list[str]:
     """Other lanes in the shard of a lane."""
     return [it for it in map(str, range(200)) if keys.rows(it)[:6] == keys.rows(lane)[:6] and it != lane]
 
 
 @pytest.mark.limit(40)
-def test_what_is_no_row_has_one_answer_too():
+def test_what_is_no_row_has_one_answer_too() -> None:
     with Cluster() as cluster, Workers(cluster.address, 1) as workers:
         got = asyncio.run(read_lane(cluster.address, "3", [EAN13, *NO_ROWS, *TEXTS, EAN13]))
         assert got == [READ, *(f"refused {fault}" for fault in NO_ROWS.values()), *TEXTS.values(), READ]
@@ -39,7 +43,7 @@ def test_what_is_no_row_has_one_answer_too():
 
 
 @pytest.mark.limit(40)
-def test_many_long_rows():
+def test_many_long_rows() -> None:
     """An entry of Redis takes 1 MB: rows of the largest length go in entries of their own."""
     texts = ["]E0" + "9" * 65_000 for _ in range(300)] + ["\U0001f600" * 65_537] * 3 + [EAN13]
     with Cluster(nodes=1) as cluster, Workers(cluster.address, 1) as workers:
@@ -49,13 +53,13 @@ def test_many_long_rows():
 
 
 @pytest.mark.limit(40)
-def test_entries_that_are_no_rows():
+def test_entries_that_are_no_rows() -> None:
     """Behind the till's back: other fields, bytes that are no text, fields of one name, numbers that are none. Each is answered or
     dropped, none stops the lane, and the till is given none of the answers."""
-    strange = [["x", "y"], ["t", b"\xff\xfe\x01"], ["t", "100", "t", EAN13], ["s", "", "n", "", "t", ""], ["n", "-1", "t", "100"],
+    strange: list[list[Any]] = [["x", "y"], ["t", b"\xff\xfe\x01"], ["t", "100", "t", EAN13], ["s", "", "n", "", "t", ""], ["n", "-1", "t", "100"],
                ["s", "9" * 1000, "n", "9" * 1000, "t", "100"], ["s", "e", "n", "0", "t", "\n" * 5000], ["s", "e", "n", "\u00b2", "t", "1"]]
     with Cluster(nodes=1) as cluster, Workers(cluster.address, 1) as workers:
-        async def test():
+        async def test() -> None:
             shop = Shop(cluster.address)
             till = Till(shop, "3")
             assert await till.read(EAN13) == READ
@@ -74,12 +78,12 @@ def test_entries_that_are_no_rows():
         asyncio.run(test())
         nothing_left(cluster.address, ["3"])
         said = [of.get("a", "").split("\n") for _, of in asyncio.run(entries(cluster.address, ANSWERS))]
-        assert max(map(len, said)) == 256
+        assert max(map(len, said)) == 256 and sum(map(len, said)) < 300
         workers.end()
 
 
 @pytest.mark.limit(40)
-def test_no_answer_waits_for_a_later_row():
+def test_no_answer_waits_for_a_later_row() -> None:
     """The command gets each row after the answer to the one before, and a blank line; the last has no line end."""
     with Cluster(nodes=1) as cluster, Workers(cluster.address, 1):
         words = [*NORILADLE, "till", "--redis", cluster.address, "3"]
@@ -93,7 +97,7 @@ def test_no_answer_waits_for_a_later_row():
         assert (ran.returncode, ran.stdout) == (0, b"0 refused 18 BadRuns\n1 refused 19 Blank\n")
 
 
-def locked(cluster, *lanes):
+def locked(cluster: Cluster, *lanes: str) -> str:
     """Gives the nodes the users of `noriladle worker --acl`, with the password open, as a file that survives a restart."""
     told = subprocess.run([*NORILADLE, "worker", "--acl", *lanes], capture_output=True, text=True, check=True).stdout
     file = cluster.root / "users.acl"
@@ -101,7 +105,7 @@ def locked(cluster, *lanes):
     return told
 
 
-def let_in(cluster, *lanes):
+def let_in(cluster: Cluster, *lanes: str) -> None:
     """Gives a node that runs these users."""
     for line in locked(cluster, *lanes).splitlines()[1:]:
         words = line.replace("#HASH", ">open").replace("(", " (").split("(")
@@ -110,7 +114,7 @@ def let_in(cluster, *lanes):
 
 
 @pytest.mark.limit(60)
-def test_users_write_what_is_theirs():
+def test_users_write_what_is_theirs() -> None:
     """By the rights of `noriladle worker --acl`, also after the nodes are started again; nobody else does anything."""
     cluster = Cluster(more="")
     told = locked(cluster, "3")
@@ -118,12 +122,13 @@ def test_users_write_what_is_theirs():
     assert [line.split()[1] for line in told.splitlines()] == ["default", "admin", "replica", "sentinel", "worker", "till.3"]
     assert told.startswith("user default off ")
     real_ask = ask
-    cluster.ask = lambda port, *words: real_ask(port, "--no-auth-warning", "--user", "admin", "--pass", "open", *words)
+    nodes: Any = cluster
+    nodes.ask = lambda port, *words: real_ask(port, "--no-auth-warning", "--user", "admin", "--pass", "open", *words)
     with cluster:
-        async def test():
+        async def test() -> None:
             worker, till = (keys.Shop([cluster.address], name, "open", note=notes.append) for name in ("worker", "till.3"))
 
-            async def answer(texts):
+            async def answer(texts: Sequence[str]) -> list[str]:
                 return [READ] * len(texts)
 
             one = Worker(worker, "one", answer)
@@ -141,11 +146,11 @@ def test_users_write_what_is_theirs():
             await till.close()
             await worker.close()
 
-        def lengths():
+        def lengths() -> list[str]:
             """How many entries of rows and of answers there are."""
             return [cluster.ask(cluster.holder(ROWS), "XLEN", it) for it in (ROWS, ANSWERS)]
 
-        notes = []
+        notes: list[str] = []
         asyncio.run(test())
         before = lengths()
         assert before[0] == "0" != before[1]
@@ -161,16 +166,17 @@ def test_users_write_what_is_theirs():
 
 
 @pytest.mark.limit(60)
-def test_what_the_password_of_a_till_may_do():
+def test_what_the_password_of_a_till_may_do() -> None:
     """Of all commands, with the lane's own keys and with those of another, as Redis itself judges: what a till needs."""
     other = "nl:{5}:rows:4", "nl:{5}:answers:4", "shop:{3}:rows", "nl:x"
     with Cluster(nodes=1) as cluster:
         port = cluster.ports[0]
         let_in(cluster, "3")
-        asked = [(command, key, words) for command in ask(port, "COMMAND", "LIST").split() for key in (ROWS, ANSWERS, *other)
-                 for words in ([key, "*", "a", "b"], [key, "1", "2", "3"], ["STREAMS", key, "0"], ["1", key], [key], [])]
+        asked: list[tuple[str, str, Any]] = [
+            (command, key, words) for command in ask(port, "COMMAND", "LIST").split() for key in (ROWS, ANSWERS, *other)
+            for words in ([key, "*", "a", "b"], [key, "1", "2", "3"], ["STREAMS", key, "0"], ["1", key], [key], [])]
 
-        async def test():
+        async def test() -> set[tuple[str, str]]:
             shop = Shop(cluster.address)
             dry = [["ACL", "DRYRUN", "till.3", *command.split("|"), *words] for command, _, words in asked]
             told = [said for at in range(0, len(dry), 500) for said in await shop.ask_all(ROWS, dry[at:at + 500])]
@@ -185,7 +191,7 @@ def test_what_the_password_of_a_till_may_do():
         assert {name for name, key in allowed if not key} <= {"ping", "auth", "hello", "quit", "reset", "cluster|slots"}
 
 
-def test_what_the_password_of_a_worker_may_not_do():
+def test_what_the_password_of_a_worker_may_not_do() -> None:
     """It reaches streams of lanes alone, and neither removes a key nor changes, stops or searches the node."""
     with Cluster(nodes=1) as cluster:
         let_in(cluster, "3")
@@ -197,18 +203,18 @@ def test_what_the_password_of_a_worker_may_not_do():
 
 
 @pytest.mark.limit(60)
-def test_one_lane_without_a_right():
+def test_one_lane_without_a_right() -> None:
     """Its rows wait, an operator is told, and the other lanes go on; also if a worker may read it, and not write its answers."""
     with Cluster(nodes=1) as cluster:
         port = cluster.ports[0]
         common = ["+@all", "resetchannels", "on", ">open"]
         lane, half, good = twins = beside("3")[:3]
-        told = []
+        told: list[str] = []
 
-        async def test():
+        async def test() -> None:
             worker = keys.Shop([cluster.address], "worker", "open", note=told.append)
 
-            async def answer(texts):
+            async def answer(texts: Sequence[str]) -> list[str]:
                 return [READ] * len(texts)
 
             made = {name: Till(Shop(cluster.address), name) for name in twins}
@@ -235,15 +241,15 @@ def test_one_lane_without_a_right():
 
 
 @pytest.mark.limit(60)
-def test_a_right_is_taken_back():
+def test_a_right_is_taken_back() -> None:
     """While a worker has rows: it writes all answers to what it has read and removes the rows, or does neither."""
     with Cluster(nodes=1) as cluster:
         port = cluster.ports[0]
 
-        async def test():
+        async def test() -> None:
             shop, reads, goes_on = Shop(cluster.address), asyncio.Event(), asyncio.Event()
 
-            async def answer(texts):
+            async def answer(texts: Sequence[str]) -> list[str]:
                 reads.set()
                 await goes_on.wait()
                 return [READ] * len(texts)
@@ -264,14 +270,14 @@ def test_a_right_is_taken_back():
         asyncio.run(test())
 
 
-def test_answers_that_nobody_reads():
+def test_answers_that_nobody_reads() -> None:
     """Of a till that has gone, Redis keeps some 4,096 entries."""
     with Cluster(nodes=1) as cluster, Workers(cluster.address, 1) as workers:
         asyncio.run(read_lane(cluster.address, "3", [EAN13]))
         # None follows another, so each has an entry of answers.
-        add = [["XADD", ROWS, "*", "s", "e", "n", 2 * n, "t", EAN13] for n in range(6000)]
+        add: list[list[str | int]] = [["XADD", ROWS, "*", "s", "e", "n", 2 * n, "t", EAN13] for n in range(6000)]
 
-        async def test():
+        async def test() -> None:
             shop = Shop(cluster.address)
             for at in range(0, len(add), 1000):
                 await shop.ask_all(ROWS, add[at:at + 1000])
@@ -286,7 +292,7 @@ def test_answers_that_nobody_reads():
 
 
 @pytest.mark.limit(120)
-def test_a_password_that_is_wrong_for_a_while():
+def test_a_password_that_is_wrong_for_a_while() -> None:
     """A worker goes on by itself when its user is there again."""
     with Cluster(nodes=1) as cluster, Workers(cluster.address, 0, more=["--user", "worker"]) as workers:
         os.environ["REDIS_PASSWORD"] = "open"
@@ -306,12 +312,12 @@ def test_a_password_that_is_wrong_for_a_while():
 
 
 @pytest.mark.limit(60)
-def test_a_till_of_another_type_or_without_ids():
+def test_a_till_of_another_type_or_without_ids() -> None:
     """It says what is wrong, and does not try for ever."""
     with Cluster(nodes=1) as cluster, Workers(cluster.address, 1):
         port = cluster.ports[0]
 
-        async def read(lane):
+        async def read(lane: str) -> str:
             shop = Shop(cluster.address)
             try:
                 return await Till(shop, lane, patience=20).read(EAN13)
@@ -331,7 +337,7 @@ def test_a_till_of_another_type_or_without_ids():
 
 
 @pytest.mark.limit(60)
-def test_consumers_that_do_nothing_are_removed():
+def test_consumers_that_do_nothing_are_removed() -> None:
     """Names of machines that come and go do not stay for ever; all that one of them had read is answered."""
     with Cluster(nodes=1) as cluster:
         port = cluster.ports[0]
@@ -342,10 +348,10 @@ def test_consumers_that_do_nothing_are_removed():
         ask(port, "XGROUP", "CREATECONSUMER", ROWS, "workers", "idle")
         keys.DAY, before = 2000, keys.DAY
         try:
-            async def test():
+            async def test() -> set[str]:
                 shop = Shop(cluster.address)
 
-                async def answer(texts):
+                async def answer(texts: Sequence[str]) -> list[str]:
                     return [READ] * len(texts)
 
                 await asyncio.sleep(2.5)
@@ -365,7 +371,7 @@ def test_consumers_that_do_nothing_are_removed():
             keys.DAY = before
 
 
-def test_noise():
+def test_noise() -> None:
     """1 MB of noise, 10 MB without an end, a value of 10 MB, and half a command: no row comes of it."""
     head = b"*5\r\n$4\r\nXADD\r\n$%d\r\n%s\r\n$1\r\n*\r\n$1\r\nt\r\n" % (len(ROWS), ROWS.encode())
     with Cluster() as cluster, Workers(cluster.address, 1):
@@ -383,9 +389,9 @@ def test_noise():
         assert asyncio.run(read_lane(cluster.address, "3", [EAN13])) == [READ]
 
 
-def when(seen, then):
+def when(seen: Callable[[], object], then: Callable[[], object]) -> threading.Thread:
     """Starts a thread that waits until something is seen, and then does something."""
-    def wait():
+    def wait() -> None:
         while not seen():
             time.sleep(0.1)
         then()
@@ -395,15 +401,15 @@ def when(seen, then):
     return thread
 
 
-def test_full_memory():
+def test_full_memory() -> None:
     """The nodes take no more; the tills wait, and go on by themselves when there is room."""
     asked, wanted = rows_of(20_000)
     with Cluster() as cluster, Workers(cluster.address, 2):
-        def limit(size):
+        def limit(size: int) -> None:
             for port in cluster.ports:
                 ask(port, "CONFIG", "SET", "maxmemory", size)
 
-        def free():
+        def free() -> None:
             time.sleep(2)
             limit(0)
 
@@ -415,17 +421,17 @@ def test_full_memory():
         print(f"rows submitted again {sum(till.repeated for till in tills)}")
 
 
-async def fill(shop, stream, size, count):
+async def fill(shop: keys.Shop, stream: str, size: int, count: int) -> None:
     """Writes what is no answer into a stream."""
     for _ in range(0, count, 50):
         await shop.ask_all(stream, [["XADD", stream, "*", "a", "x" * size]] * 50)
 
 
-def test_a_full_node_loses_its_largest_stream_alone():
+def test_a_full_node_loses_its_largest_stream_alone() -> None:
     """It is emptied if the node stays full; the answers of lanes in other shards, which their tills may not have read, stay."""
     *small, large = {keys.rows(lane)[:6]: keys.answers(lane) for lane in map(str, range(100))}.values()
     with Cluster(nodes=1) as cluster, Workers(cluster.address, 0) as workers:
-        async def test():
+        async def test() -> None:
             shop = Shop(cluster.address)
             for stream in (*small, large):
                 await fill(shop, stream, *((10_000, 1000) if stream == large else (100, 200)))
@@ -441,16 +447,18 @@ def test_a_full_node_loses_its_largest_stream_alone():
         assert f"{large} is emptied" in workers.kill("one")
 
 
-def test_answers_that_a_full_node_refuses():
+def test_answers_that_a_full_node_refuses() -> None:
     """The worker answers what it had read as soon as there is room, and waits for no claim. In a moment no stream is emptied."""
     other = beside("3")[0]
     with Cluster(nodes=1) as cluster:
-        port, took = cluster.ports[0], []
+        port = cluster.ports[0]
+        took: list[float] = []
 
-        async def test():
-            shop, begun = Shop(cluster.address), []
+        async def test() -> None:
+            shop = Shop(cluster.address)
+            begun: list[float] = []
 
-            async def answer(texts):
+            async def answer(texts: Sequence[str]) -> list[str]:
                 if len(begun) == len(took):
                     begun.append(time.monotonic())
                     ask(port, "CONFIG", "SET", "maxmemory", 1)
@@ -474,15 +482,15 @@ def test_answers_that_a_full_node_refuses():
         assert 0.2 <= min(took) < 1.4, took
 
 
-def test_rows_beside_long_entries():
+def test_rows_beside_long_entries() -> None:
     """Lanes of a shard are read together. If the reply is too long, the worker reads fewer entries at once; the other lane's rows
     do not wait until they are claimed."""
     long, other = beside("3")[:2]
     with Cluster(nodes=1) as cluster:
-        async def test():
+        async def test() -> list[float]:
             shop, reads, goes_on, took = Shop(cluster.address), asyncio.Event(), asyncio.Event(), []
 
-            async def answer(texts):
+            async def answer(texts: Sequence[str]) -> list[str]:
                 reads.set()
                 await goes_on.wait()
                 return [READ] * len(texts)
@@ -514,7 +522,7 @@ def test_rows_beside_long_entries():
         assert min(took) < 1.4, took
 
 
-def test_little_memory_for_long():
+def test_little_memory_for_long() -> None:
     """40,000 rows go through nodes of 4 MB: they are 7 MB, and their answers."""
     asked, wanted = rows_of(40_000)
     with Cluster() as cluster, Workers(cluster.address, 2):
@@ -526,7 +534,7 @@ def test_little_memory_for_long():
 
 
 @pytest.fixture
-def small_disk(tmp_path):
+def small_disk(tmp_path: Path) -> Iterator[Path]:
     """A file system of 1 MB."""
     folder = tmp_path / "small"
     folder.mkdir()
@@ -537,7 +545,7 @@ def small_disk(tmp_path):
 
 
 @pytest.mark.parametrize("fsync", ["always", "everysec"])
-def test_full_disk(small_disk, fsync):
+def test_full_disk(small_disk: Path, fsync: str) -> None:
     """`everysec`: the node refuses until there is room. `always`: it ends, and is started again with room."""
     asked, wanted = rows_of(20_000)
     folders = [small_disk, small_disk.parent / "second", small_disk.parent / "third"]
@@ -545,14 +553,14 @@ def test_full_disk(small_disk, fsync):
     with Cluster(folders=folders, more=more) as cluster, Workers(cluster.address, 2):
         port, seen = cluster.ports[0], []
 
-        def is_full():
+        def is_full() -> list[str]:
             if cluster.processes[port].poll() is not None:
                 seen.append("ended")
             elif "errorstat_MISCONF" in ask(port, "INFO", "errorstats"):
                 seen.append("refused")
             return seen
 
-        def free():
+        def free() -> None:
             time.sleep(2)
             subprocess.run(["mount", "-o", "remount,size=100m", small_disk], check=True)
             if seen == ["ended"]:
@@ -582,7 +590,7 @@ int fdatasync(int file) {
 
 
 @pytest.mark.limit(240)
-def test_a_slow_disk(tmp_path):
+def test_a_slow_disk(tmp_path: Path) -> None:
     """What was taken for lost is written all the same, and submitted again; the till gives each answer once."""
     asked, wanted = rows_of(8_000)
     with Preloaded(tmp_path, SLOW) as cluster, Workers(cluster.address, 2) as workers:

@@ -1,5 +1,7 @@
 """Who may do what at a gateway: users and groups over the UNIX socket, tokens, certificates of TLS, and pages. Needs openssl and root, since
 it asks as other users; else that part is skipped."""
+from __future__ import annotations
+
 import asyncio
 import os
 import pwd
@@ -11,6 +13,7 @@ import sys
 import tempfile
 import time
 from pathlib import Path
+from typing import Iterator
 
 import pytest
 
@@ -24,32 +27,32 @@ ASK = "import socket, sys; it = socket.socket(socket.AF_UNIX); it.connect(sys.ar
 
 
 @pytest.fixture
-def open_folder():
+def open_folder() -> Iterator[Path]:
     """A folder that every user reaches."""
     with tempfile.TemporaryDirectory(dir="/tmp") as folder:
         os.chmod(folder, 0o755)
         yield Path(folder)
 
 
-def rights(folder, *lines):
+def rights(folder: Path, *lines: str) -> list[str]:
     """A file of options with these lines of its table."""
     file = folder / "gateway.toml"
     file.write_text("\n".join(["[rights]", *lines, ""]))
     return ["--config", str(file)]
 
 
-def may_not(what):
+def may_not(what: str) -> str:
     return f"closed: no right to {what}\n"
 
 
 @pytest.mark.skipif(os.geteuid() != 0, reason="only root asks as other users")
-def test_users_and_groups(open_folder):
+def test_users_and_groups(open_folder: Path) -> None:
     """By the kernel's word, whatever a client says of itself; groups beside the first one count too."""
     words = rights(open_folder, '"user 4711" = "watch till-1"', '"group 4712" = "scan till-*"', '"user nobody" = "rows, watch *"')
     with Gateway(open_folder, *words) as gateway:
         os.chmod(gateway.unix, 0o666)
 
-        def asked(user, group, groups, line):
+        def asked(user: int, group: int, groups: list[int], line: str) -> str:
             told = subprocess.run([sys.executable, "-c", ASK, gateway.unix, line], stdout=subprocess.PIPE, text=True, timeout=20,
                                   user=user, group=group, extra_groups=groups)
             return told.stdout
@@ -57,7 +60,7 @@ def test_users_and_groups(open_folder):
         nobody = pwd.getpwnam("nobody").pw_uid
         # Somebody scans there first, so a till that watches gets the next number at once.
         assert asked(4714, 4712, [], "scan till-1\n0") == NEXT
-        for user, group, groups, line, wanted in [
+        cases: list[tuple[int, int, list[int], str, str]] = [
             (4711, 4713, [], "watch till-1", NEXT),
             (4711, 4713, [], "watch till-2", may_not("watch till-2")),
             (4711, 4713, [], "scan till-1", may_not("scan till-1")),
@@ -70,11 +73,12 @@ def test_users_and_groups(open_folder):
             (nobody, 4713, [], ROW.decode().strip(), f"0 {READ}\n"),
             (nobody, 4713, [], "watch till-1", NEXT),
             (0, 0, [], "watch till-1", may_not("watch till-1")),
-        ]:
+        ]
+        for user, group, groups, line, wanted in cases:
             assert asked(user, group, groups, line) == wanted, (user, group, groups, line)
 
 
-def new_token():
+def new_token() -> tuple[str, str]:
     """A token, and its name in the table."""
     token, line = subprocess.run([*NORILADLE, "gateway", "--token"], capture_output=True, text=True, check=True).stdout.splitlines()
     name, _, what = line.partition(" = ")
@@ -82,7 +86,7 @@ def new_token():
     return token, name
 
 
-def first_line(gateway, *pieces):
+def first_line(gateway: Gateway, *pieces: str) -> str:
     """The first line that a client over TCP gets after it has sent these."""
     with gateway.connect() as client:
         for piece in pieces:
@@ -91,7 +95,7 @@ def first_line(gateway, *pieces):
         return client.line()
 
 
-def test_tokens(tmp_path):
+def test_tokens(tmp_path: Path) -> None:
     (one, its), (two, other) = new_token(), new_token()
     assert one != two and one not in its
     with Gateway(tmp_path, *rights(tmp_path, f'{its} = "rows, scan till-1, watch *"', f'{other} = "watch till-1"')) as gateway:
@@ -116,7 +120,7 @@ def test_tokens(tmp_path):
                 assert first_line(gateway, *pieces) == wanted, pieces
 
 
-def test_rights_that_are_taken_back(tmp_path):
+def test_rights_that_are_taken_back(tmp_path: Path) -> None:
     """SIGHUP closes who has lost them, and no other; who has got some may use them at once."""
     (one, its), (two, other) = new_token(), new_token()
     words = rights(tmp_path, f'{its} = "watch till-1"', f'{other} = "watch till-1"')
@@ -132,12 +136,12 @@ def test_rights_that_are_taken_back(tmp_path):
         assert stays.line() == NEXT
 
 
-def test_pages(tmp_path):
+def test_pages(tmp_path: Path) -> None:
     """A page has the rights of its token."""
     websockets = pytest.importorskip("websockets")
     token, name = new_token()
     with Gateway(tmp_path, "--web", "0", *rights(tmp_path, f'{name} = "watch till-1, scan till-1"')) as gateway:
-        async def told(path):
+        async def told(path: str) -> str:
             """The first line, or why the page is closed."""
             async with websockets.connect(f"ws://127.0.0.1:{gateway.ports['web']}{path}") as page:
                 try:
@@ -145,7 +149,7 @@ def test_pages(tmp_path):
                 except websockets.ConnectionClosed as closed:
                     return closed.reason if hasattr(closed, "reason") else closed.rcvd.reason
 
-        async def taken_back():
+        async def taken_back() -> str:
             async with websockets.connect(f"ws://127.0.0.1:{gateway.ports['web']}/till-1?token={token}") as page:
                 assert await page.recv() == "0 next"
                 rights(tmp_path, '"user 0" = "rows"')
@@ -166,17 +170,17 @@ def test_pages(tmp_path):
 class Authority:
     """An authority of certificates, by openssl."""
 
-    def __init__(self, folder, name):
+    def __init__(self, folder: Path, name: str) -> None:
         self.folder, self.file = folder, folder / f"{name}.pem"
         self._make(name, "-x509", "-days", "2")
 
-    def _make(self, name, *words):
+    def _make(self, name: str, *words: str) -> tuple[Path, Path]:
         key, file = self.folder / f"{name}.key", self.folder / f"{name}.pem"
         subprocess.run(["openssl", "req", "-newkey", "ec", "-pkeyopt", "ec_paramgen_curve:prime256v1", "-nodes", "-keyout", key, "-out", file,
                         "-subj", f"/CN={name}", *words], check=True, capture_output=True)
         return key, file
 
-    def issue(self, name):
+    def issue(self, name: str) -> tuple[Path, Path]:
         """The key of a certificate of it for a name, and its file."""
         key, request = self._make(name, "-addext", "subjectAltName=DNS:localhost")
         made = subprocess.run(["openssl", "x509", "-req", "-in", request, "-CA", self.file, "-CAkey", self.file.with_suffix(".key"),
@@ -185,7 +189,7 @@ class Authority:
         return key, request
 
 
-def speaks(gateway, authority, client=None, is_old=False):
+def speaks(gateway: Gateway, authority: Authority, client: tuple[Path, Path] | None = None, is_old: bool = False) -> Client:
     """A client over TLS, which trusts an authority and may have a key and a certificate; an old one knows TLS 1.1 at most."""
     context = ssl.create_default_context(cafile=authority.file)
     if is_old:
@@ -200,19 +204,19 @@ def speaks(gateway, authority, client=None, is_old=False):
     return it
 
 
-def serial(gateway, *client):
+def serial(gateway: Gateway, authority: Authority, client: tuple[Path, Path] | None = None) -> str:
     """The number of the certificate that a client gets."""
-    with speaks(gateway, *client) as its:
+    with speaks(gateway, authority, client) as its:
         return its.socket.getpeercert()["serialNumber"]
 
 
 @pytest.fixture
-def authority(tmp_path):
+def authority(tmp_path: Path) -> Authority:
     return Authority(tmp_path, "shop")
 
 
 @pytest.mark.filterwarnings("ignore::DeprecationWarning")
-def test_tls(tmp_path, authority):
+def test_tls(tmp_path: Path, authority: Authority) -> None:
     """Rows and answers as without; nobody else is answered, and the UNIX socket needs none."""
     key, file = authority.issue("gateway")
     with Gateway(tmp_path, "--key", str(key), "--cert", str(file)) as gateway:
@@ -236,7 +240,7 @@ def test_tls(tmp_path, authority):
                     pass
 
 
-def test_a_certificate_is_renewed(tmp_path, authority):
+def test_a_certificate_is_renewed(tmp_path: Path, authority: Authority) -> None:
     key, file = authority.issue("gateway")
     options = tmp_path / "gateway.toml"
     options.write_text(f'key = "{key}"\ncert = "{file}"\n')
@@ -250,7 +254,7 @@ def test_a_certificate_is_renewed(tmp_path, authority):
         assert client.ask(ROW) == f"0 {READ}\n"
 
 
-def test_certificates_of_clients(tmp_path, authority):
+def test_certificates_of_clients(tmp_path: Path, authority: Authority) -> None:
     """With --ca none is let in without one, and the name in it is a name in the table of rights."""
     key, file = authority.issue("gateway")
     till, another = authority.issue("till-1"), authority.issue("till-2")
@@ -278,7 +282,7 @@ def test_certificates_of_clients(tmp_path, authority):
 
 
 @pytest.mark.limit(40)
-def test_clients_that_never_begin_tls(tmp_path, authority):
+def test_clients_that_never_begin_tls(tmp_path: Path, authority: Authority) -> None:
     """They hold up no other, and are closed after five seconds."""
     key, file = authority.issue("gateway")
     with Gateway(tmp_path, "--key", str(key), "--cert", str(file), "--each", "500", "--connections", "500") as gateway:
@@ -292,7 +296,7 @@ def test_clients_that_never_begin_tls(tmp_path, authority):
         assert time.monotonic() - begin < 15
 
 
-def test_handshakes_that_fail_keep_no_place(tmp_path, authority):
+def test_handshakes_that_fail_keep_no_place(tmp_path: Path, authority: Authority) -> None:
     """And who has no place over TLS gets no line, which would be no TLS."""
     key, file = authority.issue("gateway")
     with Gateway(tmp_path, "--key", str(key), "--cert", str(file), "--each", "4", "--metrics", "0") as gateway:
@@ -317,6 +321,6 @@ def test_handshakes_that_fail_keep_no_place(tmp_path, authority):
     (["--cert", "none.pem", "--key", "none.key"], "noriladle: none.pem, none.key: No such file or directory\n"),
     (["--cert", "/dev/null", "--key", "/dev/null"], "noriladle: /dev/null, /dev/null: "),
 ])
-def test_words_of_tls(words, wanted):
+def test_words_of_tls(words: list[str], wanted: str) -> None:
     ran = subprocess.run([*NORILADLE, "gateway", "--port", "0", *words], capture_output=True, text=True)
     assert ran.returncode == 2 and ran.stderr.startswith(wanted) and "Traceback" not in ran.stderr

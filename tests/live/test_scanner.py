@@ -1,4 +1,6 @@
 """The scanner, whose device is a pty, or a pipe of a keyboard's events; texts are checked by the library."""
+from __future__ import annotations
+
 import argparse
 import os
 import re
@@ -9,6 +11,7 @@ import termios
 import time
 from contextlib import contextmanager
 from pathlib import Path
+from typing import BinaryIO, Iterator
 
 import pytest
 
@@ -61,7 +64,7 @@ TEXTS = [
 
 
 @pytest.mark.parametrize("text, wanted", TEXTS)
-def test_check(text, wanted):
+def test_check(text: bytes, wanted: str) -> None:
     assert _checked(text, 2026, "all") == wanted
 
 
@@ -69,7 +72,7 @@ def test_check(text, wanted):
     ("09501101530003", "9501101530003"), ("00000096385074", "96385074"), ("00012345000065", "0012345000065"),
     ("19501101530000", "19501101530000"),
 ])
-def test_digits_that_are_typed(gtin, digits):
+def test_digits_that_are_typed(gtin: str, digits: str) -> None:
     assert digits_of(gtin) == digits
 
 
@@ -87,7 +90,7 @@ def test_digits_that_are_typed(gtin, digits):
     ("]C1 01=09501101530003\t10=A", b"]C10109501101530003" b"09A", "9501101530003"),
     ("]C1 (10)AB", b"]C10109501101530003", ""),
 ])
-def test_the_gtin_that_is_typed(said, text, gtin):
+def test_the_gtin_that_is_typed(said: str, text: bytes, gtin: str) -> None:
     words = argparse.Namespace(type="gtin", year=2026, ais="all")
     assert _typed(words, said, text) == gtin
     words.type = "elements"
@@ -95,7 +98,7 @@ def test_the_gtin_that_is_typed(said, text, gtin):
 
 
 @pytest.mark.parametrize("end", [b"\r", b"\n", b"\r\n"])
-def test_a_serial_line(end):
+def test_a_serial_line(end: bytes) -> None:
     with Serial() as scanner:
         for number, (text, wanted) in enumerate(TEXTS):
             scanner.send(text + end, one_by_one=True)
@@ -107,14 +110,14 @@ def test_a_serial_line(end):
         assert scanner.ended() == ("", f"{scanner.device}: unplugged\n", 0)
 
 
-def test_the_rate_of_a_serial_line():
+def test_the_rate_of_a_serial_line() -> None:
     with Serial("--baud", "115200") as scanner:
         until = time.monotonic() + 20
         while termios.tcgetattr(scanner.its)[4:6] != [termios.B115200] * 2:
             assert time.monotonic() < until
 
 
-def test_systemd_is_told_of_a_scanner(tmp_path, monkeypatch):
+def test_systemd_is_told_of_a_scanner(tmp_path: Path, monkeypatch: pytest.MonkeyPatch) -> None:
     """When it is ready, that it lives, though nothing is scanned, and that it stops."""
     systemd = Notified(tmp_path)
     monkeypatch.setenv("NOTIFY_SOCKET", systemd.path)
@@ -127,14 +130,14 @@ def test_systemd_is_told_of_a_scanner(tmp_path, monkeypatch):
         assert scanner.ended() == ("", "", 0)
 
 
-def test_several_texts_at_once():
+def test_several_texts_at_once() -> None:
     with Serial() as scanner:
         scanner.send(b"\r\n\r]E496385074\r\r]E496385074\n\r\n", size=100)
         assert [scanner.line(), scanner.line()] == ["0 ]E4 (01)00000096385074\n", "1 ]E4 (01)00000096385074\n"]
         scanner.unplug()
 
 
-def test_10_mb_without_a_line_end():
+def test_10_mb_without_a_line_end() -> None:
     with Serial() as scanner:
         before = scanner.most_memory()
         for _ in range(100):
@@ -146,7 +149,7 @@ def test_10_mb_without_a_line_end():
         scanner.unplug()
 
 
-def test_noise():
+def test_noise() -> None:
     """Random bytes on a line: each text has its line, and the next text is read."""
     sent = noise(200_000)
     texts = [text for text in re.split(b"[\r\n\t]", sent) if text]
@@ -159,7 +162,7 @@ def test_noise():
         scanner.unplug()
 
 
-def test_a_text_without_an_end():
+def test_a_text_without_an_end() -> None:
     """Two seconds after its last byte it is unread, and the next text is read."""
     with Serial() as scanner:
         scanner.send(b"]E09501101530003")
@@ -179,7 +182,7 @@ sys.exit(main(["scanner", "--keyboard", *sys.argv[1:]]))
 
 
 @contextmanager
-def keyboard(folder, *words):
+def keyboard(folder: Path, *words: str) -> Iterator[tuple[Scanner, BinaryIO]]:
     """The scanner's program on a keyboard, and the pipe of its events."""
     device = str(folder / "event")
     os.mkfifo(device)
@@ -187,11 +190,11 @@ def keyboard(folder, *words):
         yield scanner, pipe
 
 
-def key(code, value):
+def key(code: int, value: int) -> bytes:
     return EVENT.pack(0, 0, 4, 4, code) + EVENT.pack(0, 0, 1, code, value) + EVENT.pack(0, 0, 0, 0, 0)
 
 
-def strokes(text, shift_key=42, control_key=29):
+def strokes(text: str, shift_key: int = 42, control_key: int = 29) -> bytes:
     """The events of a keyboard that types a text, held keys among them; the separator as Ctrl-]."""
     codes = {char: (code, shift) for code, both in KEYS.items() if code < 71 and code != 15 for shift, char in enumerate(both)}
     out = b""
@@ -204,7 +207,7 @@ def strokes(text, shift_key=42, control_key=29):
     return out
 
 
-def test_a_keyboard(tmp_path):
+def test_a_keyboard(tmp_path: Path) -> None:
     texts = [(text.decode(), wanted) for text, wanted in TEXTS if len(text) < 100 and all(byte == 29 or 32 <= byte < 127 for byte in text)]
     with keyboard(tmp_path) as (scanner, pipe):
         for number, (text, wanted) in enumerate(texts):
@@ -226,14 +229,14 @@ def test_a_keyboard(tmp_path):
         assert scanner.ended() == ("", f"{tmp_path}/event: unplugged\n", 0)
 
 
-def by_numbers(text):
+def by_numbers(text: str) -> bytes:
     """The events of a scanner in ALT mode: each character by its number on the keypad."""
     keypad = {"7": 71, "8": 72, "9": 73, "4": 75, "5": 76, "6": 77, "1": 79, "2": 80, "3": 81, "0": 82}
     return b"".join(key(56, 1) + b"".join(key(keypad[digit], 1) + key(keypad[digit], 0) for digit in f"{ord(char):03}") + key(56, 0)
                     for char in text)
 
 
-def test_a_keyboard_that_types_numbers(tmp_path):
+def test_a_keyboard_that_types_numbers(tmp_path: Path) -> None:
     """Whatever its country: with Alt and the keypad, and digits of the keypad alone."""
     with keyboard(tmp_path) as (scanner, pipe):
         pipe.write(by_numbers("]C110AB\x1d21C") + strokes("\r"))
@@ -242,7 +245,7 @@ def test_a_keyboard_that_types_numbers(tmp_path):
         assert scanner.line() == "1 - (01)00000096385074\n"
 
 
-def test_a_keyboard_of_another_country(tmp_path):
+def test_a_keyboard_of_another_country(tmp_path: Path) -> None:
     """That of Germany has ] by AltGr and 9: the answer says so, and the next text is read."""
     with keyboard(tmp_path) as (scanner, pipe):
         pipe.write(key(100, 1) + key(10, 1) + key(10, 0) + key(100, 0) + strokes("E496385074\r"))
@@ -251,7 +254,7 @@ def test_a_keyboard_of_another_country(tmp_path):
         assert scanner.line() == "1 ]E4 (01)00000096385074\n"
 
 
-def test_keys_that_were_lost(tmp_path):
+def test_keys_that_were_lost(tmp_path: Path) -> None:
     """The kernel had no room for them, and says so: that text is unread, and the next is read."""
     with keyboard(tmp_path) as (scanner, pipe):
         pipe.write(strokes("]E4963") + EVENT.pack(0, 0, 0, 3, 0) + strokes("74\r]E496385074\r"))
@@ -263,19 +266,19 @@ def test_keys_that_were_lost(tmp_path):
         assert scanner.line() == "3 ]E4 (01)00000096385074\n"
 
 
-def test_what_is_typed_is_read_back():
+def test_what_is_typed_is_read_back() -> None:
     for text in ("9501101530003\r", "(01)09501101530003(10)a-Z/%\r", "\x1d^]\\`~\r"):
         assert Keyboard().typed(events_of(text)) == text.encode()
 
 
-def test_a_device_that_cannot_be_taken_alone(tmp_path):
+def test_a_device_that_cannot_be_taken_alone(tmp_path: Path) -> None:
     """What is no event device is not read, since what it types would go into a window too."""
     os.mkfifo(tmp_path / "event")
     with open(os.open(tmp_path / "event", os.O_RDWR), "wb"), Scanner(str(tmp_path / "event"), "--keyboard") as scanner:
         assert scanner.ended() == ("", f"{tmp_path}/event: Inappropriate ioctl for device\n", 1)
 
 
-def test_a_keyboard_of_the_kernel(tmp_path):
+def test_a_keyboard_of_the_kernel(tmp_path: Path) -> None:
     """What is typed on a virtual keyboard is read, and goes nowhere else."""
     path = Path("/dev/uinput")
     if not (path.exists() and stat.S_ISCHR(path.stat().st_mode)):
@@ -297,7 +300,7 @@ def test_a_keyboard_of_the_kernel(tmp_path):
     os.close(device)
 
 
-def test_the_typing_keyboard_is_not_there(tmp_path):
+def test_the_typing_keyboard_is_not_there(tmp_path: Path) -> None:
     if Path("/dev/uinput").exists():
         pytest.skip("there is a /dev/uinput")
     with Serial.__new__(Serial) as scanner:
@@ -308,7 +311,7 @@ def test_the_typing_keyboard_is_not_there(tmp_path):
 
 
 @pytest.mark.parametrize("words", [["no/such/device"], ["no/such/device", "--keyboard"], [__file__]])
-def test_no_device(words):
+def test_no_device(words: list[str]) -> None:
     with Scanner(*words) as scanner:
         out, error, status = scanner.ended()
         assert (out, status) == ("", 1) and error.startswith(f"{words[0]}: ")

@@ -1,4 +1,6 @@
 """From scanner to till: six scanners, six tills and one gateway, whatever comes and goes. Needs pgrep."""
+from __future__ import annotations
+
 import asyncio
 import itertools
 import os
@@ -9,6 +11,8 @@ import socket
 import statistics
 import threading
 import time
+from pathlib import Path
+from typing import Callable, Iterator
 
 import pytest
 
@@ -29,16 +33,16 @@ RESTARTS = 10
 
 
 @pytest.fixture
-def gateway(tmp_path):
+def gateway(tmp_path: Path) -> Iterator[Gateway]:
     with Gateway(tmp_path, port=False) as it:
         yield it
 
 
-def plug(gateway, lane):
+def plug(gateway: Gateway, lane: str) -> Serial:
     return Serial("--gateway", gateway.unix, "--lane", lane)
 
 
-def wait_for(what, seconds=20):
+def wait_for(what: Callable[[], object], seconds: float = 20) -> None:
     until = time.monotonic() + seconds
     while not what():
         assert time.monotonic() < until, "it does not come"
@@ -48,14 +52,14 @@ def wait_for(what, seconds=20):
 class Lane(threading.Thread):
     """A scanner that is used without a pause and pulled out now and then, in mid-line, and plugged in again."""
 
-    def __init__(self, gateway, name, count, seed):
+    def __init__(self, gateway: Gateway, name: str, count: int, seed: int) -> None:
         super().__init__()
         self.gateway, self.name_of_lane, self.count, self.random = gateway, name, count, random.Random(seed)
         self.sent = 0
         self.plugged = 0
-        self.fault = None
+        self.fault: BaseException | None = None
 
-    def run(self):
+    def run(self) -> None:
         try:
             while self.sent < self.count:
                 self.plugged += 1
@@ -63,7 +67,7 @@ class Lane(threading.Thread):
         except BaseException as fault:  # The test raises it again.
             self.fault = fault
 
-    def use(self, until):
+    def use(self, until: int) -> None:
         """Scans until this many texts were sent, each answered or unread; the scanner is pulled out then."""
         with plug(self.gateway, self.name_of_lane) as scanner:
             settled = self.sent
@@ -80,7 +84,7 @@ class Lane(threading.Thread):
             assert scanner.ended()[2] == 0
 
 
-def restart(gateway, folder, at, lanes):
+def restart(gateway: Gateway, folder: Path, at: int, lanes: list[Lane]) -> None:
     """Ends the gateway, by a signal that it hears of or not, and starts another after a while; when this many were sent."""
     for number in range(RESTARTS):
         while sum(lane.sent for lane in lanes) < at * (number + 1):
@@ -93,7 +97,7 @@ def restart(gateway, folder, at, lanes):
         gateway.process = Gateway(folder, port=False).process
 
 
-def is_answered_once(lane, till):
+def is_answered_once(lane: Lane, till: Till) -> int:
     """Whether a till was told of each scan once and in order, or that it was lost; how many were."""
     sold = [int(found[1]) for line in till.lines for found in [re.fullmatch(r"sold: \d+ \]C1 \(21\)(\d+)\n", line)] if found]
     lost = [found[1] for line in till.lines for found in [re.fullmatch(r"again, please: (\d+|some) scans were lost\n", line)] if found]
@@ -112,7 +116,7 @@ def is_answered_once(lane, till):
 
 
 @pytest.mark.limit(450)
-def test_six_scanners_and_six_tills(tmp_path):
+def test_six_scanners_and_six_tills(tmp_path: Path) -> None:
     """100,000 scans; scanners are plugged in and out, and the gateway is started again."""
     gateway = Gateway(tmp_path, port=False)
     tills = [Till(gateway.unix, name) for name in LANES]
@@ -137,7 +141,7 @@ def test_six_scanners_and_six_tills(tmp_path):
           f"{sum(lane.plugged for lane in lanes)} times: {sent - sum(missing)} told once and in order, {sum(missing)} told as lost, 0 else")
 
 
-def test_scanner_to_till(gateway):
+def test_scanner_to_till(gateway: Gateway) -> None:
     """How long it takes, one at a time."""
     with gateway.watch("till-1") as till, plug(gateway, "till-1") as scanner:
         assert till.line() == "0 next\n"
@@ -152,7 +156,7 @@ def test_scanner_to_till(gateway):
         print(f"\nscanner to till: median {statistics.median(times):.2f} ms, 99 of 100 below {sorted(times)[1980]:.2f} ms")
 
 
-def test_a_till_that_comes_late_is_told_the_next_number_and_no_old_scan(gateway):
+def test_a_till_that_comes_late_is_told_the_next_number_and_no_old_scan(gateway: Gateway) -> None:
     with plug(gateway, "till-1") as scanner:
         for number in range(3):
             scanner.send(EAN8 + b"\r")
@@ -163,7 +167,7 @@ def test_a_till_that_comes_late_is_told_the_next_number_and_no_old_scan(gateway)
             assert till.line() == display.line() == f"3 {GUM}\n"
 
 
-def test_a_till_without_a_scanner_hears_nothing_until_one_comes(gateway):
+def test_a_till_without_a_scanner_hears_nothing_until_one_comes(gateway: Gateway) -> None:
     with gateway.watch("till-1") as till, gateway.watch("till-2") as other:
         till.socket.settimeout(0.3)
         with pytest.raises(OSError):
@@ -177,7 +181,7 @@ def test_a_till_without_a_scanner_hears_nothing_until_one_comes(gateway):
                 other.socket.recv(1)
 
 
-def test_a_scanner_that_is_plugged_in_again_goes_on_with_the_numbers(gateway):
+def test_a_scanner_that_is_plugged_in_again_goes_on_with_the_numbers(gateway: Gateway) -> None:
     with gateway.watch("till-1") as till:
         for number in range(3):
             with plug(gateway, "till-1") as scanner:
@@ -188,7 +192,7 @@ def test_a_scanner_that_is_plugged_in_again_goes_on_with_the_numbers(gateway):
                 assert scanner.ended()[2] == 0
 
 
-def test_a_scanner_that_is_unplugged_gets_the_answer_to_its_last_scan(gateway):
+def test_a_scanner_that_is_unplugged_gets_the_answer_to_its_last_scan(gateway: Gateway) -> None:
     with plug(gateway, "till-1") as scanner:
         scanner.send(EAN8 + b"\r")
         assert scanner.line() == f"0 {GUM}\n"
@@ -201,7 +205,7 @@ def test_a_scanner_that_is_unplugged_gets_the_answer_to_its_last_scan(gateway):
         assert scanner.ended() == (f"1 {GUM}\n", f"{scanner.device}: unplugged\n", 0)
 
 
-def test_two_scanners_on_a_lane(gateway):
+def test_two_scanners_on_a_lane(gateway: Gateway) -> None:
     """The first has it; what the second scans is unread, until the first is unplugged."""
     with gateway.watch("till-1") as till, plug(gateway, "till-1") as first:
         assert till.line() == "0 next\n"
@@ -222,7 +226,7 @@ def test_two_scanners_on_a_lane(gateway):
             assert second.ended()[2] == 0 and time.monotonic() - begin < 2
 
 
-def test_no_gateway(tmp_path):
+def test_no_gateway(tmp_path: Path) -> None:
     """What is scanned has two seconds until there is one."""
     with Serial("--gateway", str(tmp_path / "hub"), "--lane", "till-1") as scanner:
         begin = time.monotonic()
@@ -236,7 +240,7 @@ def test_no_gateway(tmp_path):
                 assert first == "2 next\n" or first == "1 next\n" and till.line() == f"1 {GUM}\n"
 
 
-def test_a_gateway_that_lets_nobody_in(tmp_path):
+def test_a_gateway_that_lets_nobody_in(tmp_path: Path) -> None:
     """It was stopped, and as many clients wait as may: a scan is unread in its time."""
     with socket.socket(socket.AF_UNIX) as listening, socket.socket(socket.AF_UNIX) as waiting:
         listening.bind(str(tmp_path / "hub"))
@@ -247,7 +251,7 @@ def test_a_gateway_that_lets_nobody_in(tmp_path):
             assert scanner.line() == f"0 unread: {tmp_path}/hub: Resource temporarily unavailable\n"
 
 
-def test_a_text_is_sent_once(tmp_path):
+def test_a_text_is_sent_once(tmp_path: Path) -> None:
     """A gateway that ends with a text may have told the till of it: the next one gets the number behind it, and no text."""
     with socket.socket(socket.AF_UNIX) as listening:
         listening.bind(str(tmp_path / "hub"))
@@ -266,7 +270,7 @@ def test_a_text_is_sent_once(tmp_path):
 
 
 @pytest.mark.parametrize("stalled", ["the gateway", "the hub"])
-def test_an_answer_that_comes_late_is_not_told(gateway, stalled):
+def test_an_answer_that_comes_late_is_not_told(gateway: Gateway, stalled: str) -> None:
     """For three seconds nothing answers; the next customer gets no answer of the one before."""
     pid = gateway.process.pid if stalled == "the gateway" else gateway.hub()
     with gateway.watch("till-1") as till, plug(gateway, "till-1") as scanner:
@@ -286,7 +290,7 @@ def test_an_answer_that_comes_late_is_not_told(gateway, stalled):
         assert set(told[:-1]) <= {"0 unread: no answer in 2 seconds\n", "1 next\n"} and len(told) > 1
 
 
-def test_an_answer_that_waited_while_the_scanner_slept(gateway):
+def test_an_answer_that_waited_while_the_scanner_slept(gateway: Gateway) -> None:
     """Its program prints and types nothing of it."""
     with plug(gateway, "till-1") as scanner:
         scanner.send(EAN8 + b"\r")
@@ -302,10 +306,11 @@ def test_an_answer_that_waited_while_the_scanner_slept(gateway):
         assert scanner.line() == "1 unread: no answer in 2 seconds\n"
 
 
-def test_an_answer_that_the_gateway_had_before_it_slept():
+def test_an_answer_that_the_gateway_had_before_it_slept() -> None:
     """It is told to nobody, though the loop comes to it before it gives up the scan."""
-    async def test():
-        reply, told = asyncio.get_running_loop().create_future(), []
+    async def test() -> None:
+        reply = asyncio.get_running_loop().create_future()
+        told: list[str] = []
         lane = ScanLane("till-1", type("Asked", (), {"ask": lambda self, text: reply})())
         lane.watch(Listener(told.append))
         lane.begin(lane.join())
@@ -318,7 +323,7 @@ def test_an_answer_that_the_gateway_had_before_it_slept():
     asyncio.run(test())
 
 
-def test_a_scan_has_two_seconds_whatever_its_program_does(gateway):
+def test_a_scan_has_two_seconds_whatever_its_program_does(gateway: Gateway) -> None:
     """The gateway reports it to the till by itself."""
     with gateway.watch("till-1") as till, gateway.unix_client() as scanner:
         assert scanner.ask(b"scan till-1\n0\n") == "0 next\n" == till.line()
@@ -335,7 +340,7 @@ def test_a_scan_has_two_seconds_whatever_its_program_does(gateway):
         assert till.line() == f"2 {GUM}\n"
 
 
-def test_a_till_that_takes_nothing_holds_up_no_other(gateway):
+def test_a_till_that_takes_nothing_holds_up_no_other(gateway: Gateway) -> None:
     """Once the buffers of its socket are full it is closed."""
     with gateway.watch("till-1") as slow, gateway.watch("till-1") as till, gateway.unix_client() as scanner:
         scanner.ask(b"scan till-1\n")
@@ -353,7 +358,7 @@ def test_a_till_that_takes_nothing_holds_up_no_other(gateway):
         assert last == "closed: what was told is not taken" and told[0] == "0 next"
 
 
-def test_noise_while_a_till_asks(gateway):
+def test_noise_while_a_till_asks(gateway: Gateway) -> None:
     """Random bytes of one scanner: each text has its answer in its place, and another till goes on."""
     sent = noise(100_000)
     texts = [text for text in re.split(b"[\r\n\t]", sent) if text]
@@ -388,14 +393,14 @@ def test_noise_while_a_till_asks(gateway):
     (b"https://id.gs1.org/x/y/01/9501101530003/21/%41", "- (01)09501101530003(21)A"),
     (b"https://id.gs1.org/" + b"1/" * 490, "refused 40 Kind"),
 ], ids=lambda it: str(it)[:24])
-def test_texts(gateway, text, wanted):
+def test_texts(gateway: Gateway, text: bytes, wanted: str) -> None:
     with gateway.watch("till-1") as till, plug(gateway, "till-1") as scanner:
         scanner.send(text + b"\r" + EAN8 + b"\r", size=1_000)
         assert [till.line() for _ in range(3)] == ["0 next\n", f"0 {wanted}\n", f"1 {GUM}\n"]
 
 
 @pytest.mark.parametrize("text", [b"]C101095011015300031726123110LOT7\x1d21A/B", b"https://id.gs1.org/01/09501101530003/10/A%2FB?17=261231#x"])
-def test_a_message_that_is_cut_at_each_place(gateway, text):
+def test_a_message_that_is_cut_at_each_place(gateway: Gateway, text: bytes) -> None:
     """Each part has one answer in its place, that of the library, and the whole one is read."""
     parts = [text[:end] for end in range(1, len(text) + 1)] + [text[begin:] for begin in range(1, len(text))]
     with gateway.watch("till-1") as till, plug(gateway, "till-1") as scanner:
@@ -420,7 +425,7 @@ def test_a_message_that_is_cut_at_each_place(gateway, text):
     (b"scan till-1\n0\n1 ]E496385074\n", "scan 1 is not the next one of lane till-1"),
     (b"watch till-1\n]E496385074\n", "a till that watches a lane sends nothing more"),
 ])
-def test_what_no_scanner_and_no_till_sends(gateway, sent, why):
+def test_what_no_scanner_and_no_till_sends(gateway: Gateway, sent: bytes, why: str) -> None:
     with gateway.unix_client() as client:
         client.send(sent)
         assert client.lines.read().decode().endswith(f"closed: {why}\n")
@@ -429,7 +434,7 @@ def test_what_no_scanner_and_no_till_sends(gateway, sent, why):
         assert any(till.line() == f"0 {GUM}\n" for _ in range(3))
 
 
-def test_why_a_scan_has_no_text(gateway):
+def test_why_a_scan_has_no_text(gateway: Gateway) -> None:
     """Its program says so: up to 200 bytes, and of these a till gets what can be printed."""
     with gateway.watch("till-1") as till, gateway.unix_client() as scanner:
         assert scanner.ask(b"scan till-1\n") == "0 next\n"
@@ -438,7 +443,7 @@ def test_why_a_scan_has_no_text(gateway):
         assert [till.line() for _ in range(3)] == ["0 next\n", *said] and [scanner.line() for _ in range(2)] == said
 
 
-def test_more_scanners_than_lanes_of_the_hub(gateway):
+def test_more_scanners_than_lanes_of_the_hub(gateway: Gateway) -> None:
     """Texts need no lane of their own."""
     clients = [gateway.unix_client() for _ in range(40)]
     for number, client in enumerate(clients):
@@ -449,7 +454,7 @@ def test_more_scanners_than_lanes_of_the_hub(gateway):
         client.__exit__()
 
 
-def test_names_that_nobody_uses_make_room(gateway):
+def test_names_that_nobody_uses_make_room(gateway: Gateway) -> None:
     """A client that asks for one lane after the other takes none from anybody."""
     with gateway.watch("till-1") as till:
         for number in range(300):
@@ -459,7 +464,7 @@ def test_names_that_nobody_uses_make_room(gateway):
             assert till.line() == "0 next\n"
 
 
-def test_the_lane_of_a_device_by_the_file_of_options(gateway, tmp_path):
+def test_the_lane_of_a_device_by_the_file_of_options(gateway: Gateway, tmp_path: Path) -> None:
     with gateway.watch("till-7") as till:
         scanner = Serial.__new__(Serial)
         file = tmp_path / "scanner.toml"
@@ -473,17 +478,17 @@ def test_the_lane_of_a_device_by_the_file_of_options(gateway, tmp_path):
         os.close(ours), os.close(its)
 
 
-def test_nothing_leaks(gateway):
+def test_nothing_leaks(gateway: Gateway) -> None:
     """Connections of all kinds that end in all ways leave no file open."""
-    def open_files():
+    def open_files() -> int:
         return len(os.listdir(f"/proc/{gateway.process.pid}/fd"))
 
-    def round_of():
+    def round_of() -> None:
         with plug(gateway, "till-1") as scanner, gateway.watch("till-1") as till:
             scanner.send(EAN8 + b"\r")
             assert till.line().endswith("next\n")
         for sent in (b"", b"scan till-1\n", b"watch till-1\n", b"scan till-1\n0 ]E4", b"watch !\n", b"11 1"):
-            client = Client(gateway.unix, 1)
+            client = Client(gateway.unix, socket.AF_UNIX)
             client.send(sent)
             client.reset()
 

@@ -3,12 +3,15 @@
 Needs root, debootstrap and systemd-container; it is skipped where a container cannot be had, and the reason is told. The Debian is made
 once and kept in the folder that CONTAINER names in the environment, or made anew.
 """
+from __future__ import annotations
+
 import os
 import shutil
 import socket
 import subprocess
 import time
 from pathlib import Path
+from typing import Any, Iterator, Sequence
 
 import pytest
 
@@ -19,11 +22,12 @@ LIMIT = 900
 NEEDED = "systemd,systemd-sysv,dbus,python3,udev,procps,python3-hiredis,python3-prometheus-client,openssl"
 
 
-def install(root):
+def install(root: Path) -> None:
     """Puts in what the packages have, by package/build's own list."""
     modules = root / "usr/lib/python3/dist-packages/noriladle"
     shutil.rmtree(modules, ignore_errors=True)
     shutil.copytree(ROOT / "python/noriladle", modules, ignore=shutil.ignore_patterns("__pycache__"))
+    file: Any
     for file, into in [(ROOT / "package/noriladle", "usr/bin/noriladle"), (shutil.which(PROGRAM), "usr/bin/gs1_hub"),
                        (ROOT / "package/noriladle.sysusers", "usr/lib/sysusers.d/noriladle.conf"),
                        (ROOT / "package/70-noriladle-scanner.rules", "usr/lib/udev/rules.d/70-noriladle-scanner.rules"),
@@ -38,15 +42,15 @@ def install(root):
 class Container:
     """A Debian that systemd has started."""
 
-    def __init__(self, root):
+    def __init__(self, root: Path) -> None:
         self.root = root
         words = ["systemd-nspawn", "--quiet", f"--directory={root}", "--boot", "--register=no", "--keep-unit", "--console=pipe"]
         self.said = open(root.parent / "console", "wb+")
         self.process = subprocess.Popen(words, stdin=subprocess.DEVNULL, stdout=self.said, stderr=self.said,
                                         env={**os.environ, "SYSTEMD_NSPAWN_UNIFIED_HIERARCHY": "0"})
-        self.leader = None
+        self.leader = ""
 
-    def wait(self):
+    def wait(self) -> str:
         """Until it is up; the reason, if it does not come up."""
         until = time.monotonic() + 60
         while time.monotonic() < until and self.process.poll() is None:
@@ -60,14 +64,14 @@ class Container:
         self.said.seek(0)
         return self.said.read().decode("utf-8", "replace")[-300:] or "it does not come up"
 
-    def run(self, *words, **more):
+    def run(self, *words: object, **more: Any) -> subprocess.CompletedProcess[str]:
         return subprocess.run(["nsenter", "-t", self.leader, "-a", "env", "-i", "PATH=/usr/sbin:/usr/bin:/sbin:/bin", *map(str, words)],
                               capture_output=True, text=True, timeout=60, **more)
 
-    def shown(self, unit, name):
+    def shown(self, unit: str, name: str) -> str:
         return self.run("systemctl", "show", "-P", name, unit).stdout.strip()
 
-    def end(self):
+    def end(self) -> None:
         if self.leader:
             self.run("systemctl", "poweroff")
         try:
@@ -79,7 +83,7 @@ class Container:
 
 
 @pytest.fixture(scope="module")
-def container(tmp_path_factory):
+def container(tmp_path_factory: pytest.TempPathFactory) -> Iterator[Container]:
     if os.geteuid() or not shutil.which("systemd-nspawn") or not shutil.which("debootstrap"):
         pytest.skip("a container needs root, debootstrap and systemd-container")
     root = Path(os.environ.get("CONTAINER") or tmp_path_factory.mktemp("container") / "root")
@@ -103,13 +107,13 @@ ASK = "import socket,sys; it=socket.socket(socket.AF_UNIX); it.connect('/run/nor
       "print(it.makefile().readline(), end='')"
 
 
-def ask(container):
+def ask(container: Container) -> str:
     """What the gateway answers to a row."""
     ran = container.run("python3", "-c", ASK, ROW.decode().strip())
     return ran.stdout or ran.stderr
 
 
-def test_the_gateway(container):
+def test_the_gateway(container: Container) -> None:
     """It is ready when systemctl returns; then it reloads its options, is killed and restarted, and stops."""
     unit = "noriladle-gateway"
     ran = container.run("systemctl", "start", unit)
@@ -149,21 +153,21 @@ SPEAK = "import socket,ssl; it=ssl._create_unverified_context().wrap_socket(sock
         "it.sendall(b']E09501101530003\\n'); print(it.makefile().readline(), end=''); import hashlib; print(hashlib.sha256(it.getpeercert(True)).hexdigest())"
 
 
-def test_a_renewed_certificate(container):
+def test_a_renewed_certificate(container: Container) -> None:
     """As docs/OPERATIONS.md says: the service reads the key by its group, a pair that is not whole changes nothing, and a reload takes the new one."""
     unit, folder = "noriladle-gateway", container.root / "etc/noriladle"
     before = (folder / "gateway.toml").read_text()
     (folder / "gateway.toml").write_text(before + 'port = 4710\ncert = "/etc/noriladle/gateway.pem"\nkey = "/etc/noriladle/gateway.key"\n')
 
-    def make(name):
+    def make(name: str) -> None:
         made = container.run("openssl", "req", "-x509", "-newkey", "rsa:2048", "-nodes", "-keyout", f"/etc/noriladle/{name}.key", "-out",
                              f"/etc/noriladle/{name}.pem", "-days", "30", "-subj", "/CN=localhost")
         assert made.returncode == 0, made.stderr
 
-    def put(*words):
+    def put(*words: str) -> None:
         assert container.run("install", *words).returncode == 0
 
-    def seen():
+    def seen() -> str:
         ran = container.run("python3", "-c", SPEAK)
         assert ran.stdout.startswith(f"- {READ}\n"), ran.stdout + ran.stderr
         return ran.stdout.splitlines()[1]
@@ -186,7 +190,7 @@ def test_a_renewed_certificate(container):
     container.run("systemctl", "stop", unit)
 
 
-def test_the_journal_of_scans(container):
+def test_the_journal_of_scans(container: Container) -> None:
     """The service may write it, and nothing else."""
     unit, file = "noriladle-gateway", container.root / "etc/noriladle/gateway.toml"
     before = file.read_text()
@@ -200,14 +204,14 @@ def test_the_journal_of_scans(container):
     container.run("systemctl", "stop", unit)
 
 
-def test_rights(container):
+def test_rights(container: Container) -> None:
     """Within its confinement too the gateway knows the users and groups of its clients."""
     unit, file = "noriladle-gateway", container.root / "etc/noriladle/gateway.toml"
     before = file.read_text()
     file.write_text(before + '[rights]\n"user daemon" = "rows"\n"group games" = "rows"\n')
     assert container.run("systemctl", "start", unit).returncode == 0
 
-    def asked(user, group, more):
+    def asked(user: str, group: str, more: Sequence[str]) -> str:
         words = ["setpriv", f"--reuid={user}", f"--regid={group}", *more, "python3", "-c", ASK, ROW.decode().strip()]
         ran = container.run(*words)
         return ran.stdout or ran.stderr
@@ -220,7 +224,7 @@ def test_rights(container):
     container.run("systemctl", "stop", unit)
 
 
-def test_a_wrong_file_of_options(container):
+def test_a_wrong_file_of_options(container: Container) -> None:
     """The start fails, and the journal has the line."""
     file = container.root / "etc/noriladle/gateway.toml"
     before = file.read_text()
@@ -233,13 +237,13 @@ def test_a_wrong_file_of_options(container):
     file.write_text(before)
 
 
-def test_a_scanner_without_its_file_is_left_alone(container):
+def test_a_scanner_without_its_file_is_left_alone(container: Container) -> None:
     assert container.run("systemctl", "start", "--no-block", "noriladle-scanner@dev-null").returncode == 0
     time.sleep(1)
     assert container.shown("noriladle-scanner@dev-null", "ActiveState") == "inactive"
 
 
-def test_a_worker(container):
+def test_a_worker(container: Container) -> None:
     """It has its rights and its node from the option files, and ends when systemd stops it."""
     if not shutil.which("redis-server"):
         pytest.skip("there is no redis-server")

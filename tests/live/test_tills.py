@@ -1,4 +1,6 @@
 """What breaks tills over Redis: each fault, with real nodes and workers, and the errors of the tills. Needs gcc and pgrep."""
+from __future__ import annotations
+
 import asyncio
 import os
 import random
@@ -9,6 +11,8 @@ import subprocess
 import time
 import urllib.error
 import urllib.request
+from pathlib import Path
+from typing import Any, Awaitable, Callable
 
 import pytest
 
@@ -24,10 +28,10 @@ GUM = "]E4 (01)00000096385074"
 ROWS, ANSWERS = keys.rows("3"), keys.answers("3")
 
 
-def with_node(test, **more):
+def with_node(test: Callable[[keys.Shop, Cluster], Awaitable[Any]], **more: Any) -> Any:
     """Runs a test with the Shop of one node."""
     with Cluster(nodes=1, **more) as node:
-        async def run():
+        async def run() -> Any:
             shop = Shop(node.address)
             try:
                 return await test(shop, node)
@@ -36,12 +40,12 @@ def with_node(test, **more):
         return asyncio.run(run())
 
 
-async def looks(shop):
+async def looks(shop: keys.Shop) -> int:
     """How often tills have asked for an entry of their rows."""
     return int(re.search(r"cmdstat_xrange:calls=(\d+)|$", await shop.ask("", "INFO", "commandstats"))[1] or 0)
 
 
-def write(port, *words):
+def write(port: int, *words: str) -> None:
     """A command to a node, however long it is and takes."""
     with socket.create_connection(("127.0.0.1", port)) as node:
         node.sendall(b"*%d\r\n%b" % (len(words), b"".join(b"$%d\r\n%b\r\n" % (len(word), word.encode()) for word in words)))
@@ -50,10 +54,10 @@ def write(port, *words):
 
 @pytest.mark.limit(120)
 @pytest.mark.parametrize("evil", ["one entry of 60 MB", "one entry of 20 MB", "many rows of 1 MB"])
-def test_entries_that_are_too_long_kill_no_worker(evil):
+def test_entries_that_are_too_long_kill_no_worker(evil: str) -> None:
     """A row of 1 MB has its refusal; an entry over the limit of a reply is dropped unread, and one over that of a lane goes with the
     lane's rows. Another lane goes on meanwhile, and the worker takes no more memory for it."""
-    async def test(shop, node):
+    async def test(shop: keys.Shop, node: Cluster) -> None:
         with Workers(node.address, 1) as workers:
             till = Till(shop, "3")
             assert await till.read(EAN13) == READ
@@ -80,9 +84,9 @@ def test_entries_that_are_too_long_kill_no_worker(evil):
 
 
 @pytest.mark.limit(60)
-def test_a_lane_that_has_too_many_rows():
+def test_a_lane_that_has_too_many_rows() -> None:
     """Over 32 MB of rows without an answer its stream is emptied, and its till submits again."""
-    async def test(shop, node):
+    async def test(shop: keys.Shop, node: Cluster) -> None:
         till = Till(shop, "3")
         reading = asyncio.ensure_future(till.read(EAN13))
         for _ in range(40):
@@ -97,9 +101,9 @@ def test_a_lane_that_has_too_many_rows():
     with_node(test)
 
 
-def test_a_till_goes_on_row_by_row():
+def test_a_till_goes_on_row_by_row() -> None:
     """Its predecessor had submitted five rows, and died before an answer."""
-    async def test(shop, node):
+    async def test(shop: keys.Shop, node: Cluster) -> None:
         first = Till(shop, "3")
         reading = asyncio.ensure_future(first.read_all([EAN13, EAN8, "100", EAN13, EAN8]).__anext__())
         while not await shop.ask(ROWS, "XLEN", ROWS):
@@ -112,20 +116,20 @@ def test_a_till_goes_on_row_by_row():
                 assert await second.read(row) == answer
             # A till beside it that has its series gets its own answers.
             third = Till(shop, "3", first.series, 7)
-            assert await asyncio.gather(third.read(EAN13), second.read(EAN13)) == [READ, READ]
+            assert [*await asyncio.gather(third.read(EAN13), second.read(EAN13))] == [READ, READ]
     with_node(test)
 
 
-def test_rows_that_come_one_by_one_share_their_answers(monkeypatch):
+def test_rows_that_come_one_by_one_share_their_answers(monkeypatch: pytest.MonkeyPatch) -> None:
     """Entries of a row that follow each other are answered by few entries; none has the answers of more than 256 rows, or of two series."""
-    async def test(shop, node):
+    async def test(shop: keys.Shop, node: Cluster) -> None:
         one, two = Till(shop, "3"), Till(shop, "3")
         again = Till(shop, "3", one.series, 600)
 
-        async def read(till, times):
+        async def read(till: Till, times: int) -> None:
             assert [said async for _, said in till.read_all([EAN13, EAN8, "100"] * times)] == [READ, GUM, "refused 19 Blank"] * times
 
-        async def submit(till, times, entries):
+        async def submit(till: Till, times: int, entries: int) -> asyncio.Task[Any]:
             before = await shop.ask(ROWS, "XLEN", ROWS)
             reading = asyncio.ensure_future(read(till, times))
             while await shop.ask(ROWS, "XLEN", ROWS) < before + entries:
@@ -145,12 +149,12 @@ def test_rows_that_come_one_by_one_share_their_answers(monkeypatch):
 
 
 @pytest.mark.limit(60)
-def test_a_hub_whose_lane_is_spent(tmp_path):
+def test_a_hub_whose_lane_is_spent(tmp_path: Path) -> None:
     """Its refusal is no answer: the worker ends, and the next one answers."""
     (tmp_path / "hub").write_text("#!/bin/sh\nwhile read -r line; do echo \"${line%%,*} - refused 35 Spent\"; done\n")
     (tmp_path / "hub").chmod(0o755)
 
-    async def test(shop, node):
+    async def test(shop: keys.Shop, node: Cluster) -> None:
         words = [*NORILADLE, "worker", "--redis", node.address, "--name", "one", "--year", "2026"]
         reading = asyncio.ensure_future(Till(shop, "3").read(EAN13))
         with subprocess.Popen(["env", f"GS1_HUB={tmp_path / 'hub'}", *words], stderr=subprocess.PIPE, text=True) as worker:
@@ -162,9 +166,9 @@ def test_a_hub_whose_lane_is_spent(tmp_path):
 
 
 @pytest.mark.limit(60)
-def test_lanes_of_the_version_before():
+def test_lanes_of_the_version_before() -> None:
     """A worker says that they are there, and what to read."""
-    async def test(shop, node):
+    async def test(shop: keys.Shop, node: Cluster) -> None:
         await shop.ask("shop:{north.0}:rows", "XADD", "shop:{north.0}:rows", "1-0", "widths", EAN13)
         with Workers(node.address, 1) as workers:
             assert await Till(shop, "3").read(EAN13) == READ
@@ -175,7 +179,7 @@ def test_lanes_of_the_version_before():
 
 
 @pytest.mark.limit(60)
-def test_one_address_of_several_is_down():
+def test_one_address_of_several_is_down() -> None:
     """A worker and a till that are started then reach the lanes of the nodes that run."""
     with Cluster() as cluster:
         down = cluster.ports[0]
@@ -195,12 +199,12 @@ FAILOVERS = 10
 
 
 @pytest.mark.limit(240)
-def test_replicas_take_over():
+def test_replicas_take_over() -> None:
     """Masters die one after the other, and their replicas, which may be behind, take their lanes: each till gets the
     answers to its rows, in order and each once."""
     asked, wanted = rows_of(16_000)
 
-    async def read_on(shop, lane, done, tills):
+    async def read_on(shop: keys.Shop, lane: str, done: Any, tills: list[Till]) -> tuple[str, list[str]]:
         got, till = [], Till(shop, lane, most=16)
         async for _, answer in till.read_all(asked[lane]):
             got.append(answer)
@@ -210,7 +214,7 @@ def test_replicas_take_over():
         tills.append(till)
         return lane, got
 
-    async def fail_over(cluster, done):
+    async def fail_over(cluster: Cluster, done: Any) -> None:
         for number in range(FAILOVERS):
             masters = [port for port in cluster.ports if await asyncio.to_thread(cluster.role, port) == "master"]
             port = masters[number % len(masters)]
@@ -228,11 +232,13 @@ def test_replicas_take_over():
             done.count += 1
         done.set()
 
-    async def test(cluster):
-        shop, done, tills = Shop([f"127.0.0.1:{port}" for port in cluster.ports]), asyncio.Event(), []
+    async def test(cluster: Cluster) -> tuple[Any, list[Till]]:
+        shop = Shop([f"127.0.0.1:{port}" for port in cluster.ports])
+        tills: list[Till] = []
+        done: Any = asyncio.Event()
         done.count = 0
-        harming = asyncio.ensure_future(fail_over(cluster, done))
-        reading = asyncio.gather(*(read_on(shop, lane, done, tills) for lane in LANES))
+        harming: asyncio.Future[Any] = asyncio.ensure_future(fail_over(cluster, done))
+        reading: asyncio.Future[Any] = asyncio.gather(*(read_on(shop, lane, done, tills) for lane in LANES))
         await asyncio.wait([harming, reading], return_when=asyncio.FIRST_EXCEPTION)
         await harming
         got = dict(await reading)
@@ -246,10 +252,10 @@ def test_replicas_take_over():
     print(f"\n{FAILOVERS} failovers, {sum(till.lost for till in tills)} rows told as lost: 0 wrong, 0 doubled, 0 out of order")
 
 
-def test_without_a_worker():
+def test_without_a_worker() -> None:
     """A till says so after two seconds, and its program gets a fault when it does not want to wait longer."""
-    async def test(shop, _):
-        said = []
+    async def test(shop: keys.Shop, _: object) -> None:
+        said: list[str] = []
         till = Till(shop, "3", patience=3, note=said.append)
         begin = time.monotonic()
         with pytest.raises(NoAnswer, match="lane 3: no answer for 3 seconds"):
@@ -259,11 +265,11 @@ def test_without_a_worker():
 
 
 @pytest.mark.limit(60)
-def test_rows_that_only_wait_are_submitted_again_late():
+def test_rows_that_only_wait_are_submitted_again_late() -> None:
     """Without a worker they stay in Redis once for 12 seconds, however often the till looks, and twice for 24: a till that submits
     them again because it is silent would make more work for workers that have too much."""
-    async def test(shop, node):
-        said = []
+    async def test(shop: keys.Shop, node: Cluster) -> None:
+        said: list[str] = []
         till = Till(shop, "3", note=said.append)
         answers = till.read_all([EAN13] * 300)
         reading, begin = asyncio.ensure_future(answers.__anext__()), time.monotonic()
@@ -279,9 +285,9 @@ def test_rows_that_only_wait_are_submitted_again_late():
     with_node(test)
 
 
-def test_a_till_takes_no_more_rows_than_it_may_keep():
+def test_a_till_takes_no_more_rows_than_it_may_keep() -> None:
     """The others stay with its program until there are answers."""
-    async def test(shop, _):
+    async def test(shop: keys.Shop, _: object) -> None:
         given = []
         reading = asyncio.ensure_future(Till(shop, "3", most=16).read_all(given.append(n) or EAN13 for n in range(100)).__anext__())
         await asyncio.sleep(1)
@@ -290,9 +296,9 @@ def test_a_till_takes_no_more_rows_than_it_may_keep():
     with_node(test)
 
 
-def test_an_answer_of_the_same_moment():
+def test_an_answer_of_the_same_moment() -> None:
     """Its ID may have the millisecond of its row: the till reads it at once, and does not find it when it looks."""
-    async def test(shop, _):
+    async def test(shop: keys.Shop, _: object) -> None:
         till = Till(shop, "3")
         reading = asyncio.ensure_future(till.read(EAN13))
         while not await shop.ask(ROWS, "XLEN", ROWS):
@@ -303,9 +309,9 @@ def test_an_answer_of_the_same_moment():
     with_node(test)
 
 
-def test_errors_are_reported_once():
+def test_errors_are_reported_once() -> None:
     """A node that is down makes many of them; the same one is reported once in ten seconds."""
-    async def test(said):
+    async def test(said: list[str]) -> None:
         with pytest.raises(NoAnswer):
             await Till(keys.Shop([f"127.0.0.1:{free_ports(1)[0]}"], note=said.append), "3", patience=2).read(EAN13)
         assert said and len(said) == len(set(said))
@@ -314,12 +320,12 @@ def test_errors_are_reported_once():
 
 
 @pytest.mark.limit(40)
-def test_connections_to_a_node_that_was_gone():
+def test_connections_to_a_node_that_was_gone() -> None:
     """Those that were open before are dead: one call waits for one of them, and the next has a new one."""
-    async def test():
-        silent = []
+    async def test() -> None:
+        silent: list[bool] = []
 
-        async def serve(reader, writer):
+        async def serve(reader: asyncio.StreamReader, writer: asyncio.StreamWriter) -> None:
             mine = len(silent)
             while (words := await reader.read(1000)) and len(silent) == mine:
                 writer.write(b"-ERR This instance has cluster support disabled\r\n" if b"SLOTS" in words else b"+PONG\r\n")
@@ -339,9 +345,9 @@ def test_connections_to_a_node_that_was_gone():
     asyncio.run(test())
 
 
-def test_many_entries_of_a_dead_worker():
+def test_many_entries_of_a_dead_worker() -> None:
     """Another claims many at each look, and does not take a second for each."""
-    async def test(shop, node):
+    async def test(shop: keys.Shop, node: Cluster) -> None:
         await shop.ask_all(ROWS, [["XADD", ROWS, "*", "s", "e", "n", 2 * n, "t", EAN13] for n in range(100)])
         await shop.ask(ROWS, "XGROUP", "CREATE", ROWS, "workers", "0")
         await shop.ask(ROWS, "XREADGROUP", "GROUP", "workers", "gone", "STREAMS", ROWS, ">")
@@ -355,8 +361,8 @@ def test_many_entries_of_a_dead_worker():
 
 
 @pytest.mark.parametrize("number", [signal.SIGTERM, signal.SIGINT])
-def test_both_signals_end_a_worker_regularly(number):
-    async def test(shop, node):
+def test_both_signals_end_a_worker_regularly(number: signal.Signals) -> None:
+    async def test(shop: keys.Shop, node: Cluster) -> None:
         with Workers(node.address, 1) as workers:
             assert await Till(shop, "3").read(EAN13) == READ
             worker = workers.running.pop("worker0")
@@ -366,8 +372,8 @@ def test_both_signals_end_a_worker_regularly(number):
     with_node(test)
 
 
-def test_the_user_in_the_environment():
-    async def test(shop, node):
+def test_the_user_in_the_environment() -> None:
+    async def test(shop: keys.Shop, node: Cluster) -> None:
         await shop.ask("", "ACL", "SETUSER", "guest", "on", ">open", "~*", "+@all")
         words = [*NORILADLE, "till", "--redis", node.address, "3", "--patience", "10"]
         with Workers(node.address, 1):
@@ -377,7 +383,7 @@ def test_the_user_in_the_environment():
     with_node(test)
 
 
-def test_the_command_of_a_till_without_a_worker():
+def test_the_command_of_a_till_without_a_worker() -> None:
     with Cluster(nodes=1) as node:
         words = [*NORILADLE, "till", "--redis", node.address, "3", "--patience", "1"]
         ran = subprocess.run(words, input=EAN13, capture_output=True, text=True, timeout=30)
@@ -387,13 +393,13 @@ def test_the_command_of_a_till_without_a_worker():
 
 
 @pytest.mark.limit(80)
-def test_a_call_that_is_cancelled_harms_no_other_till():
+def test_a_call_that_is_cancelled_harms_no_other_till() -> None:
     """Two tills of one program share a Shop; one gives its calls a time that is too short."""
-    async def test(shop, node):
+    async def test(shop: keys.Shop, node: Cluster) -> None:
         chance = random.Random(7)
         with Workers(node.address, 1):
             for _ in range(20):
-                async def hasty():
+                async def hasty() -> None:
                     till = Till(shop, "0")
                     for _ in range(60):
                         try:
@@ -401,7 +407,7 @@ def test_a_call_that_is_cancelled_harms_no_other_till():
                         except asyncio.TimeoutError:
                             return
 
-                async def calm():
+                async def calm() -> list[str]:
                     till = Till(shop, "1")
                     return [await till.read(EAN13) for _ in range(20)]
 
@@ -410,7 +416,7 @@ def test_a_call_that_is_cancelled_harms_no_other_till():
     with_node(test)
 
 
-def page(port, path):
+def page(port: int, path: str) -> str:
     """The body of a page of a worker's port, also if it is not ready."""
     try:
         with urllib.request.urlopen(f"http://127.0.0.1:{port}{path}", timeout=10) as answer:
@@ -419,11 +425,11 @@ def page(port, path):
         return answer.read().decode()
 
 
-def values_of(port):
+def values_of(port: int) -> dict[str, str]:
     return dict(line.rsplit(" ", 1) for line in page(port, "/metrics").splitlines() if not line.startswith("#"))
 
 
-async def until(seen, seconds=20):
+async def until(seen: Callable[[], Any], seconds: float = 20) -> Any:
     """Waits until something is seen, and returns it."""
     end = time.monotonic() + seconds
     while time.monotonic() < end:
@@ -438,9 +444,9 @@ async def until(seen, seconds=20):
 
 
 @pytest.mark.limit(90)
-def test_what_an_operator_sees_of_a_worker():
+def test_what_an_operator_sees_of_a_worker() -> None:
     """Health, readiness and numbers, also of rows that nobody answers; and that a node is silent."""
-    async def test(shop, node):
+    async def test(shop: keys.Shop, node: Cluster) -> None:
         port = free_ports(1)[0]
         name = f"127.0.0.1:{node.ports[0]}"
         with Workers(node.address, 1, more=["--metrics", str(port)]) as workers:
@@ -475,9 +481,9 @@ def test_what_an_operator_sees_of_a_worker():
     with_node(test)
 
 
-def test_a_port_of_metrics_that_is_taken():
+def test_a_port_of_metrics_that_is_taken() -> None:
     """The worker says so, and works."""
-    async def test(shop, node):
+    async def test(shop: keys.Shop, node: Cluster) -> None:
         with socket.create_server(("127.0.0.1", 0)) as taken:
             with Workers(node.address, 1, more=["--metrics", str(taken.getsockname()[1])]) as workers:
                 assert await Till(shop, "3").read(EAN13) == READ
@@ -485,10 +491,10 @@ def test_a_port_of_metrics_that_is_taken():
     with_node(test)
 
 
-def test_streams_of_rows_and_texts():
+def test_streams_of_rows_and_texts() -> None:
     """Rows and texts of scanners in one lane, beside `lanes`."""
     asked, wanted = rows_of(2000)
-    async def test(shop, node):
+    async def test(shop: keys.Shop, node: Cluster) -> None:
         with Workers(node.address, 1):
             till = Till(shop, "3")
             mixed = [row for text in asked["3"] for row in (text, "]E496385074")]
@@ -499,20 +505,20 @@ def test_streams_of_rows_and_texts():
 
 
 @pytest.fixture
-def certificates(tmp_path):
+def certificates(tmp_path: Path) -> Path:
     return make_certificates(tmp_path)
 
 
-def test_tls(certificates):
+def test_tls(certificates: Path) -> None:
     """To a node that wants a client's certificate; with none, or by another authority, nothing goes through."""
     port = free_ports(1)[0]
     words = ["redis-server", "--port", "0", "--tls-port", str(port), "--save", "", "--dir", str(certificates), "--tls-cert-file", "node.pem",
              "--tls-key-file", "node.key", "--tls-ca-cert-file", "ca.pem", "--tls-auth-clients", "yes"]
-    client = ["--tls", "--ca", certificates / "ca.pem", "--cert", certificates / "client.pem", "--key", certificates / "client.key"]
+    client: list[str | Path] = ["--tls", "--ca", certificates / "ca.pem", "--cert", certificates / "client.pem", "--key", certificates / "client.key"]
     with subprocess.Popen(words, cwd=certificates, stdout=subprocess.DEVNULL) as node:
         worker = subprocess.Popen([*NORILADLE, "worker", "--redis", f"127.0.0.1:{port}", "--year", "2026", *client], stderr=subprocess.DEVNULL)
         try:
-            def till(*more):
+            def till(*more: str | Path) -> tuple[int, str]:
                 asked = [*NORILADLE, "till", "--redis", f"127.0.0.1:{port}", "3", "--patience", "4", *more]
                 ran = subprocess.run(asked, input=EAN13, capture_output=True, text=True, timeout=30)
                 return ran.returncode, ran.stdout
@@ -534,7 +540,7 @@ def test_tls(certificates):
     (["--redis", "localhost:1", "--ca", "ca.pem"], "--ca, --cert and --key are of TLS: add --tls"),
     (["--redis", "localhost:1", "--tls", "--ca", "no/such.pem"], "no/such.pem: No such file or directory"),
 ])
-def test_words(words, wanted):
+def test_words(words: list[str], wanted: str) -> None:
     for command in (["worker"], ["till", "3"]):
         ran = subprocess.run([*NORILADLE, *command, *words], input="", capture_output=True, text=True)
         assert (ran.returncode, ran.stderr) == (2, f"noriladle: {wanted}\n")
@@ -545,7 +551,7 @@ def test_words(words, wanted):
     ("workers = 17\n", ":1: workers: '17' is no number from 1 to 16"), ("\nsecret = 'x'\n", ":2: there is no option 'secret'"),
     ("lane = ['north.0']\n", ":1: there is no option 'lane'"),
 ])
-def test_a_file_of_options_that_is_wrong(tmp_path, text, wanted):
+def test_a_file_of_options_that_is_wrong(tmp_path: Path, text: str, wanted: str) -> None:
     (tmp_path / "worker.toml").write_text(text)
     ran = subprocess.run([*NORILADLE, "worker", "--config", tmp_path / "worker.toml"], capture_output=True, text=True)
     assert ran.returncode == 2 and ran.stderr.startswith(f"noriladle: {tmp_path}/worker.toml{wanted}"), ran.stderr

@@ -1,5 +1,7 @@
 """Time in each line: no scan is sold that is old, whatever slept, and who is connected knows within ten seconds that the gateway has gone.
 Needs chromium for the page, and root and iproute2 for a gateway far away; else it skips these."""
+from __future__ import annotations
+
 import os
 import re
 import signal
@@ -7,6 +9,8 @@ import socket
 import sys
 import threading
 import time
+from pathlib import Path
+from typing import Iterator
 
 import pytest
 
@@ -25,16 +29,16 @@ NEXT = r"(\d+|-) (\d+\.\d{3}) next ([0-9a-f]{8}|-)\n"
 
 
 @pytest.fixture
-def gateway(tmp_path):
+def gateway(tmp_path: Path) -> Iterator[Gateway]:
     with Gateway(tmp_path) as it:
         yield it
 
 
-def plug(gateway, lane="till-1"):
+def plug(gateway: Gateway, lane: str = "till-1") -> Serial:
     return Serial("--gateway", gateway.unix, "--lane", lane)
 
 
-def until(lines, wanted, seconds=20):
+def until(lines: list[str], wanted: str, seconds: float = 20) -> str:
     """Waits until a line of a till matches, and returns it."""
     end = time.monotonic() + seconds
     while not any(re.search(wanted, line) for line in list(lines)):
@@ -43,7 +47,7 @@ def until(lines, wanted, seconds=20):
     return next(line for line in lines if re.search(wanted, line))
 
 
-def test_lines_of_form_2(gateway):
+def test_lines_of_form_2(gateway: Gateway) -> None:
     """The number, the time of the scan, and what it says; at once, and each five seconds, who is next, the time and the series."""
     with gateway.unix_client() as till, gateway.unix_client() as scanner:
         begin = time.monotonic()
@@ -64,7 +68,7 @@ def test_lines_of_form_2(gateway):
         assert 4.5 < time.monotonic() - begin < 11
 
 
-def test_form_1_stays(gateway):
+def test_form_1_stays(gateway: Gateway) -> None:
     """A scanner and a till in form 1 beside a till in form 2."""
     with gateway.watch("till-1") as old, gateway.unix_client() as till, gateway.unix_client() as scanner:
         till.send(b"watch till-1 2\n")
@@ -84,7 +88,7 @@ def test_form_1_stays(gateway):
     (0, READ), (1.5, READ), (-1.5, READ), (2.5, r"unread: it was scanned 2\.\d seconds before it came"), (8, r"unread: it was scanned 8\.\d seconds before it came"),
     (-9, r"unread: its scanner's clock is [89]\.\d seconds ahead"), (1e9, r"unread: it was scanned 1000000000\.\d seconds before it came"),
 ])
-def test_a_scan_that_comes_late(gateway, age, wanted):
+def test_a_scan_that_comes_late(gateway: Gateway, age: float, wanted: str) -> None:
     with gateway.unix_client() as scanner:
         assert re.fullmatch(NEXT, scanner.ask(b"scan till-1 2\n"))
         scanner.send(b"0 %.3f\n0 %.3f %s\n" % (time.time(), time.time() - age, EAN))
@@ -94,13 +98,13 @@ def test_a_scan_that_comes_late(gateway, age, wanted):
 
 @pytest.mark.parametrize("line", [b"0 " + EAN, b"0", b"0 x.123 " + EAN, b"0 1764493234 " + EAN, b"0 1764493234.1 " + EAN, b"0 -1.000 " + EAN,
                                   b"0 123456789012.000 " + EAN, b"0  1764493234.123"])
-def test_what_is_no_line_of_form_2(gateway, line):
+def test_what_is_no_line_of_form_2(gateway: Gateway, line: bytes) -> None:
     with gateway.unix_client() as scanner:
         assert re.fullmatch(NEXT, scanner.ask(b"scan till-1 2\n"))
         assert scanner.ask(line + b"\n") == "closed: a scan is a number, its time, a blank and a text\n"
 
 
-def test_a_scanner_s_program_that_slept(gateway):
+def test_a_scanner_s_program_that_slept(gateway: Gateway) -> None:
     """What it read, and what the device held, is unread; what comes then is sold."""
     with Till(gateway.unix, "till-1") as till, plug(gateway) as scanner:
         scanner.send(EAN + b"\r", size=100)
@@ -124,7 +128,7 @@ def test_a_scanner_s_program_that_slept(gateway):
         assert len(till.lines) == 5, till.lines
 
 
-def test_half_a_text_from_before_a_sleep(monkeypatch):
+def test_half_a_text_from_before_a_sleep(monkeypatch: pytest.MonkeyPatch) -> None:
     """It may have no end: then the next text is as new as it is."""
     clock = [100.0]
     monkeypatch.setattr(scanner_module, "now", lambda: clock[0])
@@ -135,7 +139,7 @@ def test_half_a_text_from_before_a_sleep(monkeypatch):
     assert texts.take(EAN + b"\r]E0", is_old=True) == [(EAN, True)] and texts.take(EAN[3:] + b"\r" + EAN + b"\r") == [(EAN, True), (EAN, False)]
 
 
-def test_a_scanner_without_a_gateway_that_slept(tmp_path):
+def test_a_scanner_without_a_gateway_that_slept(tmp_path: Path) -> None:
     """What it kept for a gateway when it fell asleep is lost, though the gateway is there when it wakes."""
     with Serial("--gateway", str(tmp_path / "hub"), "--lane", "till-1") as scanner:
         scanner.send(EAN + b"\r", size=100)
@@ -152,7 +156,7 @@ def test_a_scanner_without_a_gateway_that_slept(tmp_path):
             assert not [line for line in till.lines if line.startswith("sold: 0 ")]
 
 
-def test_a_gateway_of_the_version_before(tmp_path):
+def test_a_gateway_of_the_version_before(tmp_path: Path) -> None:
     """A scanner's program speaks form 1 with it, and form 2 again with the next one."""
     with socket.socket(socket.AF_UNIX) as its:
         its.bind(str(tmp_path / "hub"))
@@ -168,7 +172,7 @@ def test_a_gateway_of_the_version_before(tmp_path):
                     time.sleep(0.2)
 
 
-def test_a_till_that_slept(gateway):
+def test_a_till_that_slept(gateway: Gateway) -> None:
     """What was scanned meanwhile is not sold when it wakes, and it says how old it is."""
     with Till(gateway.unix, "till-1") as till, plug(gateway) as scanner:
         scanner.send(EAN + b"\r", size=100)
@@ -187,7 +191,7 @@ def test_a_till_that_slept(gateway):
 
 
 @pytest.mark.parametrize("slept", [8])
-def test_a_gateway_that_slept(gateway, slept):
+def test_a_gateway_that_slept(gateway: Gateway, slept: float) -> None:
     """What waited in its socket is too old when it wakes."""
     with Till(gateway.unix, "till-1") as till, plug(gateway) as scanner:
         scanner.send(EAN + b"\r", size=100)
@@ -204,7 +208,7 @@ def test_a_gateway_that_slept(gateway, slept):
         assert not [line for line in till.lines if line.startswith("sold: 1 ")]
 
 
-def test_the_series_shows_what_was_lost(tmp_path):
+def test_the_series_shows_what_was_lost(tmp_path: Path) -> None:
     """Gateway and scanner restart together, and the numbers happen to agree: the till says that scans may be lost. If the gateway alone
     restarts, the series goes on, and nothing is said."""
     gateway = Gateway(tmp_path, port=False)
@@ -228,7 +232,7 @@ def test_the_series_shows_what_was_lost(tmp_path):
 
 
 @pytest.mark.skipif(os.geteuid() != 0, reason="a network needs root")
-def test_a_gateway_that_loses_power(tmp_path):
+def test_a_gateway_that_loses_power(tmp_path: Path) -> None:
     """No word of its end comes; a till over TCP says so within ten seconds, and goes on with the next gateway."""
     with Network("shop", "till") as network:
         with network.inside("shop"):
@@ -259,7 +263,7 @@ def test_a_gateway_that_loses_power(tmp_path):
                     time.sleep(0.5)
 
 
-def test_a_page_that_slept(tmp_path, page):  # noqa: F811
+def test_a_page_that_slept(tmp_path: Path, page: str) -> None:  # noqa: F811
     """It sells nothing that is old, says how old it is, and notices a gateway that says nothing."""
     with Gateway(tmp_path, "--web", "0", port=False) as gateway:
         browser = Browser(f"{page}?port={gateway.ports['web']}&lane=till-1", width=760, height=560, started=READY)

@@ -1,4 +1,6 @@
 """The units of systemd and the rules of udev, as these read them. Needs systemd and udev."""
+from __future__ import annotations
+
 import os
 import re
 import shutil
@@ -14,7 +16,7 @@ UNITS = sorted(ROOT.glob("package/systemd/*.service"))
 COMMON = ROOT / "package/systemd/noriladle-.service.d"
 
 
-def named(unit, folder):
+def named(unit: Path, folder: Path) -> Path:
     """A copy of a unit; an instance of a template has a name, here that of a device. What it runs need not be installed."""
     copy = folder / unit.name.replace("@.", "@dev-ttyACM0.")
     copy.write_text(unit.read_text().replace("/usr/bin/noriladle ", f"{shutil.which('true')} "))
@@ -23,14 +25,14 @@ def named(unit, folder):
 
 
 @pytest.mark.parametrize("unit", UNITS, ids=lambda unit: unit.name)
-def test_unit(unit, tmp_path):
+def test_unit(unit: Path, tmp_path: Path) -> None:
     copy = named(unit, tmp_path)
     ran = subprocess.run(["systemd-analyze", "verify", "--man=no", f"./{copy.name}"], cwd=tmp_path, capture_output=True, text=True)
     assert (ran.returncode, ran.stderr) == (0, "")
 
 
 @pytest.mark.parametrize("unit", UNITS, ids=lambda unit: unit.name)
-def test_security(unit, tmp_path):
+def test_security(unit: Path, tmp_path: Path) -> None:
     """At most 2.5 of 10."""
     copy = named(unit, tmp_path)
     ran = subprocess.run(["systemd-analyze", "security", "--offline=true", "--no-pager", "--threshold=25", f"./{copy.name}"], cwd=tmp_path,
@@ -41,7 +43,7 @@ def test_security(unit, tmp_path):
 
 
 @pytest.mark.parametrize("unit", UNITS, ids=lambda unit: unit.name)
-def test_what_a_unit_has(unit):
+def test_what_a_unit_has(unit: Path) -> None:
     """Readiness, a watchdog, a user of its own, and a stop that lets the service end by itself."""
     lines = [line for file in (unit, *COMMON.iterdir()) for line in file.read_text().splitlines()]
     assert {"Type=notify", "DynamicUser=yes", "ProtectSystem=strict", "StartLimitIntervalSec=60"} <= set(lines)
@@ -52,13 +54,13 @@ def test_what_a_unit_has(unit):
         assert "PrivateUsers=yes" not in lines and "RuntimeDirectoryPreserve=restart" not in lines
 
 
-def test_rules():
+def test_rules() -> None:
     """As udev reads them; it reports each line that it does not accept."""
     if os.geteuid() or not os.access("/run", os.W_OK):
         pytest.skip("only root gives udev a rule to read")
     folder, device = Path("/run/udev/rules.d"), next(iter(sorted(Path("/sys/class/tty").iterdir())))
 
-    def complaints(text):
+    def complaints(text: str) -> tuple[list[str], int]:
         folder.mkdir(parents=True, exist_ok=True)
         rules = folder / "70-noriladle-tested.rules"
         rules.write_text(text)

@@ -1,5 +1,7 @@
 """An earlier version beside this one, as they are while a shop is upgraded at work: workers and tills over Redis, gateways and scanners. Needs
 the history of the repository, from which the earlier one is taken; without it these are skipped."""
+from __future__ import annotations
+
 import gzip
 import os
 import platform
@@ -8,6 +10,7 @@ import subprocess
 import threading
 import time
 from pathlib import Path
+from typing import Any
 
 import pytest
 
@@ -22,7 +25,7 @@ REPOSITORY = os.environ.get("REPOSITORY", str(ROOT))
 
 
 @pytest.fixture(scope="module")
-def old(tmp_path_factory):
+def old(tmp_path_factory: pytest.TempPathFactory) -> list[str]:
     """The command of the earlier version, with its own library and program."""
     folder, parts = tmp_path_factory.mktemp("old"), Path("release", platform.machine())
     packed = subprocess.run(["git", "-C", REPOSITORY, "archive", OLD, "python/noriladle", "examples/till", parts], capture_output=True)
@@ -37,7 +40,7 @@ def old(tmp_path_factory):
 
 
 @pytest.fixture(scope="module")
-def old_till(old):
+def old_till(old: list[str]) -> Path:
     """The till of the earlier version, which knows form 1 alone."""
     return Path(old[1].partition("=")[2]).parent / "examples/till/till.py"
 
@@ -45,22 +48,23 @@ def old_till(old):
 class Feed(threading.Thread):
     """`noriladle till`, of either version, that gets rows at an even pace; `got` is what it has printed in the end."""
 
-    def __init__(self, command, address, lane, texts):
+    def __init__(self, command: list[str], address: str, lane: str, texts: list[str]) -> None:
         super().__init__()
         self.process = subprocess.Popen([*command, "till", "--redis", address, lane], stdin=subprocess.PIPE, stdout=subprocess.PIPE, text=True)
-        self.texts, self.got = texts, []
+        self.texts = texts
+        self.got: list[str] = []
         self.reading = threading.Thread(target=lambda: self.got.extend(self.process.stdout))
         self.reading.start()
         self.start()
 
-    def run(self):
+    def run(self) -> None:
         with self.process.stdin as to:
             for place in range(0, len(self.texts), 10):
                 to.write("".join(f"{text}\n" for text in self.texts[place:place + 10]))
                 to.flush()
                 time.sleep(0.15)
 
-    def answers(self):
+    def answers(self) -> list[tuple[int, str]]:
         self.join()
         self.reading.join()
         assert self.process.wait() == 0
@@ -69,7 +73,7 @@ class Feed(threading.Thread):
 
 
 @pytest.mark.limit(150)
-def test_workers_and_tills_are_upgraded(old):
+def test_workers_and_tills_are_upgraded(old: list[str]) -> None:
     """Workers of both versions beside each other on one Redis, and tills one after the other, as docs/REDIS.md says: each till gets its
     answers, and in the end the keys of the earlier version can go."""
     asked, wanted = rows_of(8_000)
@@ -100,7 +104,7 @@ def test_workers_and_tills_are_upgraded(old):
 
 
 @pytest.mark.limit(90)
-def test_a_gateway_is_upgraded(old, old_till, tmp_path):
+def test_a_gateway_is_upgraded(old: list[str], old_till: Path, tmp_path: Path) -> None:
     """And back again, with a scanner of each version and tills of the earlier one: they get each scan once, or as lost, in order."""
     versions = {"old": old, "new": NORILADLE}
     gateway = Gateway(tmp_path, "--metrics", "0", command=old)
@@ -127,6 +131,7 @@ def test_a_gateway_is_upgraded(old, old_till, tmp_path):
             told = [line for line in till.lines if line.startswith("sold: ")]
             assert told == [f"sold: {number} ]E0 (01)09501101530003\n" for number in range(61)]
     finally:
+        it: Any
         for it in [*scanners.values(), *tills.values()]:
             it.__exit__()
         gateway.__exit__()

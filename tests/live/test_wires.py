@@ -1,5 +1,7 @@
 """What somebody on each wire can do and cannot: each sentence of SECURITY.md's table is played, here or by a test that it names. Needs openssl,
 chromium, redis-server, and root and iproute2 for another machine; else it skips these."""
+from __future__ import annotations
+
 import contextlib
 import http.server
 import os
@@ -11,6 +13,8 @@ import subprocess
 import sys
 import threading
 import time
+from pathlib import Path
+from typing import Any, Callable, Iterator
 
 import pytest
 
@@ -81,14 +85,14 @@ PLAYS = {
 }
 
 
-def sentences():
+def sentences() -> dict[str, list[str]]:
     """The sentences of SECURITY.md by their wires."""
     table = (ROOT / "SECURITY.md").read_text().split("## Who is on a wire")[1].split("\n## ")[0]
     rows = [re.sub(r"\[([^]]*)\]\([^)]*\)", r"\1", line).strip("| ").split(" | ") for line in table.splitlines() if line.startswith("| ")]
     return {cells[0]: [it for cell in cells[1:] for it in cell.split("; ") if it] for cells in rows[1:]}
 
 
-def test_each_sentence_is_played():
+def test_each_sentence_is_played() -> None:
     found = sentences()
     assert found == {wire: list(plays) for wire, plays in PLAYS.items()}
     for plays in PLAYS.values():
@@ -100,19 +104,20 @@ def test_each_sentence_is_played():
 class Wire(threading.Thread):
     """A wire to a port of this machine, and somebody on it, who sees all bytes of both directions, may change them, or cut it."""
 
-    def __init__(self, port):
+    def __init__(self, port: int) -> None:
         super().__init__(daemon=True)
         self._to = port
         self._listening = socket.create_server(("127.0.0.1", 0))
         self.port = self._listening.getsockname()[1]
-        self.sent, self.came = [], []
+        self.sent: list[tuple[float, bytes]] = []
+        self.came: list[tuple[float, bytes]] = []
         """What clients sent, and what they got, in pieces with their times."""
         self.change = lambda piece: piece
         """What becomes of a piece that a client sends."""
-        self._ends = []
+        self._ends: list[socket.socket] = []
         self.start()
 
-    def run(self):
+    def run(self) -> None:
         with contextlib.suppress(OSError):
             while True:
                 near, _ = self._listening.accept()
@@ -122,7 +127,7 @@ class Wire(threading.Thread):
                     threading.Thread(target=self._carry, args=(of, to, seen, change), daemon=True).start()
 
     @staticmethod
-    def _carry(of, to, seen, change):
+    def _carry(of: socket.socket, to: socket.socket, seen: list[tuple[float, bytes]], change: Callable[[bytes], bytes]) -> None:
         with contextlib.suppress(OSError):
             while piece := of.recv(65_536):
                 seen.append((time.monotonic(), piece))
@@ -131,25 +136,25 @@ class Wire(threading.Thread):
             with contextlib.suppress(OSError):
                 it.shutdown(socket.SHUT_RDWR)
 
-    def has_seen(self, text):
+    def has_seen(self, text: bytes) -> bool:
         return any(text in b"".join(piece for _, piece in seen) for seen in (self.sent, self.came))
 
-    def cut(self):
+    def cut(self) -> None:
         """Ends all connections."""
         for it in self._ends:
             with contextlib.suppress(OSError):
                 it.shutdown(socket.SHUT_RDWR)
         self._ends.clear()
 
-    def __enter__(self):
+    def __enter__(self) -> Wire:
         return self
 
-    def __exit__(self, *_):
+    def __exit__(self, *_: object) -> None:
         self._listening.close()
         self.cut()
 
 
-def answers_of(texts):
+def answers_of(texts: list[bytes]) -> list[str]:
     """What the program answers to texts of a scanner."""
     ran = subprocess.run([PROGRAM, "live", "--lanes", "1", "--workers", "1", "--year", "2026", "--ais", "all"], input=b"".join(b"0,%s\n" % it for it in texts),
                          capture_output=True, check=True)
@@ -161,7 +166,7 @@ WRONG = [b"]E09501101530004", b"]E0 (01)09501101530003", b"0 ]E09501101530003", 
          b"]E0950110153000\x7f3", b"]e0(01)09501101530003", b"unread: x", b"- - (01)09501101530003", b"]E0\xd9\xa095011015300"]
 
 
-def test_a_cable(tmp_path):
+def test_a_cable(tmp_path: Path) -> None:
     """A right text is sold, a wrong one never is, whatever it looks like, and the other lane hears nothing; nor does it of noise."""
     with Gateway(tmp_path, port=False) as gateway, gateway.watch("till-1") as till, gateway.unix_client() as other:
         other.send(b"watch till-2 2\n")
@@ -178,8 +183,8 @@ def test_a_cable(tmp_path):
             scanner.send(b"\r" + EAN + b"\r", size=100)
             numbers = []
             for line in iter(till.line, ""):
-                number, _, said = line.rstrip("\n").partition(" ")
-                numbers.append(int(number))
+                its_number, _, said = line.rstrip("\n").partition(" ")
+                numbers.append(int(its_number))
                 if said == READ:
                     break
                 assert said.startswith(("refused ", "unread: ")), line
@@ -187,7 +192,7 @@ def test_a_cable(tmp_path):
             assert all(re.fullmatch(r"- \d+\.\d{3} next -\n", line) for line in lines_until_now(other))
 
 
-def lines_until_now(client):
+def lines_until_now(client: Client) -> Iterator[str]:
     """The lines that have come."""
     client.socket.settimeout(0.5)
     with contextlib.suppress(OSError):
@@ -195,7 +200,7 @@ def lines_until_now(client):
             yield line.decode()
 
 
-def test_a_port_without_tls(tmp_path):
+def test_a_port_without_tls(tmp_path: Path) -> None:
     """Who is on it reads the token and another's scans, changes a scan, and uses the token: for what it allows, and for nothing else."""
     token, name = new_token()
     with Gateway(tmp_path, *rights(tmp_path, f'{name} = "scan till-1, watch till-1"')) as gateway, Wire(gateway.ports["port"]) as wire:
@@ -214,7 +219,7 @@ def test_a_port_without_tls(tmp_path):
                 assert client.ask(f"token {stolen}\n{line}".encode()) == wanted
 
 
-def over_tls(wire, authority):
+def over_tls(wire: Wire, authority: Authority) -> Client:
     """A client of a wire, which trusts an authority."""
     it = Client(("127.0.0.1", wire.port))
     it.lines.close()
@@ -223,7 +228,7 @@ def over_tls(wire, authority):
     return it
 
 
-def test_a_port_with_tls(tmp_path):
+def test_a_port_with_tls(tmp_path: Path) -> None:
     """Who is on it sees when a scan is sent, and may cut the line. It reads neither a token nor a scan; a changed byte ends the connection without
     an answer; what was sent is worth nothing a second time; and a certificate is worth nothing without its key."""
     authority = Authority(tmp_path, "shop")
@@ -274,7 +279,7 @@ def test_a_port_with_tls(tmp_path):
 
 
 @NEEDS_ROOT
-def test_another_machine(tmp_path):
+def test_another_machine(tmp_path: Path) -> None:
     """The ports for pages and for numbers are not there for it."""
     with Network("shop", "far") as network:
         with network.inside("shop"):
@@ -289,12 +294,12 @@ def test_another_machine(tmp_path):
 class Evil(http.server.BaseHTTPRequestHandler):
     """The server of another site."""
 
-    def do_GET(self):
+    def do_GET(self) -> None:
         self.send_response(200)
         self.end_headers()
         self.wfile.write(b"<p>a game")
 
-    def log_message(self, *_):
+    def log_message(self, *_: str) -> None:
         pass
 
 
@@ -306,7 +311,7 @@ WATCHES = "new Promise(done => { const it = new WebSocket('ws://127.0.0.1:%d/til
 
 @pytest.mark.skipif(not shutil.which("chromium"), reason="there is no chromium")
 @pytest.mark.parametrize("named", ["localhost.evil.example", "evil.example"])
-def test_a_page_of_another_site(tmp_path, named):
+def test_a_page_of_another_site(tmp_path: Path, named: str) -> None:
     """Its requests reach the ports, and get it nothing: no lane, no number, also if its own name stands for this machine, and no line of a till."""
     with Gateway(tmp_path, "--web", "0", "--metrics", "0") as gateway, gateway.watch("till-1") as till, \
             http.server.ThreadingHTTPServer(("127.0.0.1", 0), Evil) as site:
@@ -331,7 +336,7 @@ def test_a_page_of_another_site(tmp_path, named):
             site.shutdown()
 
 
-def test_metrics(tmp_path):
+def test_metrics(tmp_path: Path) -> None:
     """No request changes a number or the service, and none shows what was scanned."""
     with Gateway(tmp_path, "--metrics", "0", port=False) as gateway, gateway.unix_client() as client:
         assert scan_all(client, "till-1", [EAN, b"]C110SECRET"]) == [f"0 {READ}\n", "1 ]C1 (10)SECRET\n"]
@@ -347,7 +352,7 @@ def test_metrics(tmp_path):
         assert page(gateway, "/readyz") == (200, "ready\n")
 
 
-def test_the_folder_of_the_journal(tmp_path):
+def test_the_folder_of_the_journal(tmp_path: Path) -> None:
     """Owner and group read it, and nobody else. Who writes all sums anew leaves nothing for the check to find."""
     folder = tmp_path / "journal"
     with Gateway(tmp_path, "--journal", str(folder), port=False) as gateway, gateway.unix_client() as client:
@@ -367,17 +372,18 @@ def test_the_folder_of_the_journal(tmp_path):
 
 
 @contextlib.contextmanager
-def guarded(**more):
+def guarded(**more: int) -> Iterator[tuple[Cluster, int]]:
     """A node with the users of `noriladle worker --acl`, all with the password open, and its port."""
     cluster = Cluster(nodes=1, more="")
     locked(cluster, "3")
     cluster.more = f"aclfile {cluster.root}/users.acl\n" + "".join(f"{name} {value}\n" for name, value in more.items())
-    cluster.ask = lambda port, *words: ask(port, "--no-auth-warning", "--user", "admin", "--pass", "open", *words)
+    nodes: Any = cluster
+    nodes.ask = lambda port, *words: ask(port, "--no-auth-warning", "--user", "admin", "--pass", "open", *words)
     with cluster:
         yield cluster, cluster.ports[0]
 
 
-def test_connections_of_a_node():
+def test_connections_of_a_node() -> None:
     """A till's password takes them all: others are refused until it lets them go."""
     with guarded(maxclients=40) as (cluster, port):
         held = []
@@ -395,10 +401,10 @@ def test_connections_of_a_node():
             assert time.monotonic() < until
 
 
-def test_the_password_of_the_workers():
+def test_the_password_of_the_workers() -> None:
     """As Redis itself judges: rows and answers of every lane, and no other key, user or setting."""
     with guarded() as (cluster, port):
-        def may(*words):
+        def may(*words: str) -> bool:
             said = cluster.ask(port, "ACL", "DRYRUN", "worker", *words)
             assert said == "OK" or "has no permissions" in said, said
             return said == "OK"
@@ -414,7 +420,7 @@ def test_the_password_of_the_workers():
             assert not may(*words), words
 
 
-def test_redis_without_rights():
+def test_redis_without_rights() -> None:
     """Everybody reads and writes everything."""
     with Cluster(nodes=1) as cluster:
         port = cluster.ports[0]
@@ -423,26 +429,27 @@ def test_redis_without_rights():
 
 
 @pytest.mark.limit(120)
-def test_redis_with_tls(tmp_path):
+def test_redis_with_tls(tmp_path: Path) -> None:
     """Who is on the network sees when a row is sent, and reads neither it nor its answer; what it cuts or changes costs a till time, and no answer."""
     make_certificates(tmp_path)
     port, = free_ports(1)
     words = ["redis-server", "--port", "0", "--tls-port", str(port), "--save", "", "--dir", str(tmp_path), "--tls-cert-file", "node.pem", "--tls-key-file", "node.key",
              "--tls-ca-cert-file", "ca.pem", "--tls-auth-clients", "yes"]
-    client = ["--tls", "--ca", tmp_path / "ca.pem", "--cert", tmp_path / "client.pem", "--key", tmp_path / "client.key"]
+    client: list[str | Path] = ["--tls", "--ca", tmp_path / "ca.pem", "--cert", tmp_path / "client.pem", "--key", tmp_path / "client.key"]
     with subprocess.Popen(words, cwd=tmp_path, stdout=subprocess.DEVNULL) as node, Wire(port) as wire:
         address = f"127.0.0.1:{wire.port}"
-        parts = [subprocess.Popen([*NORILADLE, "worker", "--redis", address, "--year", "2026", *client], stderr=subprocess.DEVNULL),
-                 subprocess.Popen([*NORILADLE, "till", "--redis", address, "3", *client], stdin=subprocess.PIPE, stdout=subprocess.PIPE, stderr=subprocess.DEVNULL, text=True)]
+        parts: list[subprocess.Popen[Any]] = [
+            subprocess.Popen([*NORILADLE, "worker", "--redis", address, "--year", "2026", *client], stderr=subprocess.DEVNULL),
+            subprocess.Popen([*NORILADLE, "till", "--redis", address, "3", *client], stdin=subprocess.PIPE, stdout=subprocess.PIPE, stderr=subprocess.DEVNULL, text=True)]
         till = parts[1]
         numbers = iter(range(100))
 
-        def asks():
+        def asks() -> None:
             till.stdin.write(EAN.decode() + "\n")
             till.stdin.flush()
             assert till.stdout.readline() == f"{next(numbers)} {READ}\n"
 
-        def spoil(piece):
+        def spoil(piece: bytes) -> bytes:
             if len(piece) > 40:
                 wire.change = lambda it: it
                 return piece[:-20] + bytes([piece[-20] ^ 1]) + piece[-19:]

@@ -34,17 +34,17 @@ import socket
 import stat
 from typing import Any, Coroutine, Iterator, List, Optional, Set
 
-from .. import _health, _service
+from .. import _service
 from .._door import Door, Places
 from .._gateway import Gateway
-from .._health import Health, Metrics
+from .._health import Health, Metrics, serve
 from .._journal import Journal
-from .._log import Log, take_libraries, writer
+from .._log import Log, writer
 from .._rights import all_rights, new_token
 from .._service import notify
 from .._tls import Tls, expiry
 from ..live import Hub
-from . import REFUSED, RIGHT, WrongWords, add_ais, add_year
+from . import REFUSED, RIGHT, WrongWords
 
 _AT_WORK = ("idle", "kept", "connections", "each", "log", "json", "origin", "rights")
 """The options that SIGHUP changes while a gateway runs."""
@@ -74,7 +74,6 @@ def add_arguments(parser: argparse.ArgumentParser) -> None:
                         help="Connections of one user of the UNIX socket, or of one address [default: 64]")
     parser.add_argument("--anyone", action="store_true",
                         help="Let --host be reached by other machines without a table of rights or without TLS")
-    parser.add_argument("--workers", type=_service.count(1, 16), default=2, metavar="N", help="Workers of the hub, 1 to 16 [default: 2]")
     parser.add_argument("--idle", type=_service.seconds, default=60.0, metavar="SECONDS",
                         help="Close a connection that sends no whole line, or takes nothing, for this long [default: 60]")
     parser.add_argument("--journal", metavar="DIR", help="Write each scan and its answer into files of this folder, before the answer is sent")
@@ -85,8 +84,6 @@ def add_arguments(parser: argparse.ArgumentParser) -> None:
     parser.add_argument("--elements", action="store_true", help="Write elements as gs1_hub live --elements does")
     parser.add_argument("--token", action=_NewToken, help="Print a new token and its line for the table of rights, and exit")
     parser.set_defaults(rights=all_rights())  # A table of the option file.
-    add_year(parser)
-    add_ais(parser)
     _service.add_arguments(parser)
 
 
@@ -109,10 +106,8 @@ def run(words: argparse.Namespace) -> int:
     words.tls = _tls_of(words)
     _refuse_anyone(words)
     _raise_limit(2 * words.connections + 512)
-    _service.keep_buffers()
     with _taken(words.unix):
-        why = asyncio.run(_run(Hub(words.lanes, words.workers, words.year, ais=words.ais, elements=words.elements), words))
-    return REFUSED if why else RIGHT
+        return _service.run(words, _run)
 
 
 def _tls_of(words: argparse.Namespace) -> Optional[Tls]:
@@ -175,39 +170,32 @@ def _taken(path: Optional[str]) -> Iterator[None]:
         os.close(lock)
 
 
-async def _run(hub: Hub, words: argparse.Namespace) -> str:
-    """Serves until it is told to stop, or the hub ends. Returns how the hub ended, if it did."""
-    loop, metrics, log = asyncio.get_running_loop(), Metrics(), Log(words.log, words.json)
-    take_libraries(log)
+async def _run(words: argparse.Namespace, log: Log) -> int:
+    hub, metrics = Hub(words.lanes, words.workers, words.year, ais=words.ais, elements=words.elements), Metrics()
     async with hub:
         ended = asyncio.ensure_future(hub.ended())
-        for number in (signal.SIGTERM, signal.SIGINT):
-            loop.add_signal_handler(number, ended.cancel)
+        _service.when_told_to_stop(ended.cancel)
         gateway = Gateway(hub, words.idle, _kept(words), Places(words.connections, words.each), log, metrics, words.rights)
         if words.journal:
             gateway.scans.journal = Journal(words.journal, words.journal_most << 20, words.journal_full == "go-on", log, metrics)
         health = Health(gateway.trip, metrics)
         servers = await _listen(gateway, words, health)
         _tell_of_certificate(words.tls, log)
-        helpers = [asyncio.ensure_future(it) for it in (gateway.sweep(), gateway.scans.beat(), health.keep(), _service.keep_alive(lambda: hub.lane(0).read("")),
-                                                        *([_load_again_when_told(gateway, words)] if words.config else []))]
-        notify("READY=1")
-        await asyncio.wait([ended])
-        notify("STOPPING=1")
+        beside = [gateway.sweep(), gateway.scans.beat(), health.keep(), *([_load_again_when_told(gateway, words)] if words.config else [])]
+        async with _service.at_work(lambda: hub.lane(0).read(""), *beside):
+            await asyncio.wait([ended])
         for server in servers:
             server.close()
         why = "" if ended.cancelled() else str(ended.result())
         if why:
             log.fault(why)
         await gateway.close(why or "the gateway stops")
-        for helper in helpers:
-            helper.cancel()
         if gateway.scans.journal:
             gateway.scans.journal.close()
         if words.unix:
             with contextlib.suppress(FileNotFoundError):
                 os.unlink(words.unix)
-    return why
+    return REFUSED if why else RIGHT
 
 
 def _kept(words: argparse.Namespace) -> int:
@@ -233,20 +221,14 @@ async def _listen(gateway: Gateway, words: argparse.Namespace, health: Health) -
         doors += [_named("port", door(its)) for its in _tcp_sockets(words.host, words.port)]
     servers: List[Any] = list(doors)
     if words.web is not None:
-        from .._web import serve
-        servers.append(_named("web", await serve(gateway, words.web, words)))
+        from .._web import serve as serve_pages
+        servers.append(_named("web", await serve_pages(gateway, words.web, words)))
     gateway.metrics.count_of("noriladle_places_refused_total", "Connections for which there was no place.",
                              lambda: float(sum(it.refused for it in servers)))
     if tls:
         gateway.metrics.gauge("noriladle_certificate_end_timestamp_seconds", "When the certificate expires, in seconds since 1970.",
                               lambda: tls.ends if tls else 0)
-    if words.metrics is None:
-        return servers
-    try:
-        return [*servers, _named("metrics", await _health.serve(words.metrics, health, gateway.metrics, gateway.log.fault))]
-    except OSError as fault:
-        gateway.log.fault(f"--metrics {words.metrics}: {fault.strerror}; the gateway goes on without")
-        return servers
+    return [*servers, *(_named("metrics", it) for it in await serve(words.metrics, health, gateway.metrics, gateway.log.fault))]
 
 
 def _unix_socket(path: str) -> socket.socket:

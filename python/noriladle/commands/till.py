@@ -10,12 +10,10 @@ from __future__ import annotations
 import argparse
 import asyncio
 import os
-from typing import Iterator, List
+from itertools import chain
 
 from .. import _service
-from .._redis import Fault
-from .._service import Log
-from ..streams import NoAnswer, Till
+from ..streams import Fault, NoAnswer, Till
 from . import REFUSED, RIGHT, tell
 from .worker import add_redis, lane, shop_of
 
@@ -40,19 +38,11 @@ def run(words: argparse.Namespace) -> int:
 
 async def _run(words: argparse.Namespace) -> int:
     """Submits the rows that are there and waits for their answers, turn by turn, so no answer waits for a later row."""
-    log = Log()
+    log, rest = _service.Log(), b""
     till = Till(shop_of(words, log), words.lane, patience=words.patience, note=log.fault)
-    for lines in turns():
+    for some in chain(iter(lambda: os.read(0, 65_536), b""), [b"\n"]):  # The last line may have no end.
+        *lines, rest = (rest + some).split(b"\n")
         texts = (line.decode("utf-8", "replace").rstrip("\r") for line in lines)
         async for number, answer in till.read_all(filter(None, texts)):
             print(number, answer, flush=True)
     return RIGHT
-
-
-def turns() -> Iterator[List[bytes]]:
-    """The lines of standard input, as many as each read gives. The last one may have no line end."""
-    rest = b""
-    while some := os.read(0, 65_536):
-        *lines, rest = (rest + some).split(b"\n")
-        yield lines
-    yield [rest]

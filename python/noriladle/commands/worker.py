@@ -9,22 +9,18 @@ docs/OPERATIONS.md how to run it. The password of Redis is in the environment's 
 from __future__ import annotations
 
 import argparse
-import asyncio
 import os
 import re
-import signal
-import socket
-import ssl
-from typing import List, Optional, Sequence
+from typing import List, Sequence
 
-from .. import Refusal, _service
-from .._health import Health, Metrics, serve
+from .. import _service
+from .._health import Answers, Health, Metrics, serve
 from .._lanes import Watch
-from .._log import take_libraries
-from .._service import Log, notify
+from .._log import Log
+from .._tls import context_of
 from ..live import Hub, HubEnded
 from ..streams import Shop, Worker, answers, rows
-from . import REFUSED, RIGHT, WrongWords, add_ais, add_year
+from . import REFUSED, RIGHT, WrongWords
 
 _RIGHTS = """user default off ~* &* +@all
 user admin on #HASH ~* &* +@all
@@ -37,8 +33,7 @@ _RIGHTS_OF_A_TILL = "user till.{lane} on #HASH resetchannels +ping +cluster|slot
 
 def add_redis(parser: argparse.ArgumentParser) -> None:
     """Adds the options that say where Redis is."""
-    parser.add_argument("--redis", action="append", default=[], metavar="HOST:PORT",
-                        help="A node of a Redis Cluster, or a single Redis; name several in case one is down")
+    parser.add_argument("--redis", action="append", default=[], metavar="HOST:PORT", help="A node of Redis; name several in case one is down")
     parser.add_argument("--master", metavar="NAME", help="Ask Sentinels: --redis names them, and this the master")
     parser.add_argument("--user", metavar="NAME", help="User of Redis, whose password is in REDIS_PASSWORD [default: REDIS_USER]")
     parser.add_argument("--tls", action="store_true", help="Speak TLS to Redis")
@@ -61,19 +56,11 @@ def shop_of(words: argparse.Namespace, log: Log) -> Shop:
 
     :raises WrongWords: they name none, or name a file that cannot be read.
     """
-    ports = [re.fullmatch(r"\S+:(\d{1,5})", address) for address in words.redis]
-    if not ports or not all(port and int(port[1]) < 65_536 for port in ports):
+    if not words.redis or not all(re.fullmatch(r"\S+:\d{1,5}", it) and int(it.rpartition(":")[2]) < 65_536 for it in words.redis):
         raise WrongWords("name a node of Redis: --redis HOST:PORT")
-    tls: Optional[ssl.SSLContext] = None
-    if words.tls:
-        try:
-            tls = ssl.create_default_context(cafile=words.ca)
-            if words.cert:
-                tls.load_cert_chain(words.cert, words.key)
-        except OSError as fault:
-            raise WrongWords(f"{words.ca if words.ca else words.cert}: {fault.strerror or fault}") from fault
-    elif words.ca or words.cert or words.key:
+    if not words.tls and (words.ca or words.cert or words.key):
         raise WrongWords("--ca, --cert and --key are of TLS: add --tls")
+    tls = context_of(words.cert, words.key, words.ca) if words.tls else None
     user, password = words.user or os.environ.get("REDIS_USER"), os.environ.get("REDIS_PASSWORD")
     return Shop(words.redis, user, password, tls, log.fault, words.master)
 
@@ -81,11 +68,8 @@ def shop_of(words: argparse.Namespace, log: Log) -> Shop:
 def add_arguments(parser: argparse.ArgumentParser) -> None:
     """Adds the arguments of ``noriladle worker``."""
     add_redis(parser)
-    parser.add_argument("--name", default=socket.gethostname(), metavar="NAME", help="The worker's own name [default: the machine's name]")
-    parser.add_argument("--workers", type=_service.count(1, 16), default=2, metavar="N", help="Workers of the hub, 1 to 16 [default: 2]")
+    parser.add_argument("--name", default=os.uname().nodename, metavar="NAME", help="The worker's own name [default: the machine's name]")
     parser.add_argument("--acl", nargs="+", type=lane, metavar="LANE", help="Print an ACL file of Redis for workers and these tills, and exit")
-    add_year(parser)
-    add_ais(parser)
     _service.add_arguments(parser)
 
 
@@ -94,54 +78,33 @@ def run(words: argparse.Namespace) -> int:
     if words.acl:
         print("\n".join([_RIGHTS, *(_RIGHTS_OF_A_TILL.format(lane=it, rows=rows(it), answers=answers(it)) for it in words.acl)]))
         return RIGHT
-    _service.keep_buffers()
-    log = Log(words.log, words.json)
-    take_libraries(log)
-    return asyncio.run(_run(words, log))
+    return _service.run(words, _run)
 
 
 async def _run(words: argparse.Namespace, log: Log) -> int:
-    shop, hub, of = shop_of(words, log), Hub(1, words.workers, words.year, ais=words.ais), Metrics()
-    worker, watch = _worker(shop, words.name, hub, of), Watch(shop, of)
-    for number in (signal.SIGTERM, signal.SIGINT):
-        asyncio.get_running_loop().add_signal_handler(number, setattr, worker, "stopping", True)
+    shop, hub, of = shop_of(words, log), Hub(1, words.workers, words.year, ais=words.ais, elements=False), Metrics()
+    watch, counts = Watch(shop, of), Answers(of)
+    worker = Worker(shop, words.name, lambda texts: _answers_to(texts, hub, counts))
+    of.count_of("noriladle_rows_dropped_total", "Entries that the worker has removed because they were too long, or for want of room.",
+                lambda: worker.dropped)
+    _service.when_told_to_stop(setattr, worker, "stopping", True)
     try:
         async with hub:
-            beside = [_service.keep_alive(lambda: hub.lane(0).read(""))]
-            if words.metrics is not None:
-                health = Health(watch.trip, of)
-                beside += [health.keep(), watch.keep()]
-                try:
-                    await serve(words.metrics, health, of, log.fault)
-                except OSError as fault:  # That the port is taken does not stop the worker.
-                    log.fault(f"no metrics: {fault.strerror or fault}")
-            running = asyncio.gather(*beside)  # Until the loop ends.
-            notify("READY=1")
-            await worker.run()
-            running.cancel()
+            health = Health(watch.trip, of)
+            is_watched = await serve(words.metrics, health, of, log.fault)
+            async with _service.at_work(lambda: hub.lane(0).read(""), *([health.keep(), watch.keep()] if is_watched else [])):
+                await worker.run()
         log.note("stopped", worker=worker.name, answers=worker.given, claimed=worker.claimed, dropped=worker.dropped)
         return RIGHT
     except HubEnded as fault:
         log.fault(str(fault))
         return REFUSED
-    finally:
-        notify("STOPPING=1")
 
 
-def _worker(shop: Shop, name: str, hub: Hub, of: Metrics) -> Worker:
-    """A worker with the answers of a hub, and with its numbers."""
-    refusals = of.counter("noriladle_refusals_total", "Rows that were refused, by the number of the refusal.", "number")
-
-    async def answer(texts: Sequence[str]) -> List[str]:
-        said = [reply.answer async for reply in hub.lane(0).read_all(texts, len(texts))]
-        for refusal in [it for it in said if isinstance(it, Refusal)]:
-            if refusal.name == "Spent":
-                raise HubEnded("the hub has used all numbers of its lane; start the worker again")
-            refusals.add(str(refusal.number))
-        return [str(it) for it in said]
-
-    worker = Worker(shop, name, answer)
-    of.count_of("noriladle_answers_total", "Rows that were answered, refusals among them.", lambda: worker.given)
-    of.count_of("noriladle_rows_dropped_total", "Entries that the worker has removed because they were too long, or for want of room.",
-                lambda: worker.dropped)
-    return worker
+async def _answers_to(texts: Sequence[str], hub: Hub, counts: Answers) -> List[str]:
+    """The answers of a hub, which are counted."""
+    said = [reply.said async for reply in hub.lane(0).read_all(texts, len(texts))]
+    if "refused 35 Spent" in said:
+        raise HubEnded("the hub has used all numbers of its lane; start the worker again")
+    counts.add(*said)
+    return said

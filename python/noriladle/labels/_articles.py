@@ -233,7 +233,7 @@ def _symbol(text: str, kind: Optional[Kind], year: int) -> Tuple[Kind, str, Answ
     usual = _usual_kind(asked, answer)
     chosen = kind or usual
     if chosen is Kind.GS1128:
-        return chosen, _elements(asked, answer) if usual is Kind.GS1128 else f"01{answer.gtin}", answer
+        return chosen, element_string(answer) if usual is Kind.GS1128 else f"01{answer.gtin}", answer
     if answer.gtin is None or len(answer.elements) > 1:
         raise ValueError(f"{short(text)}: {said('notAlone')}")
     return chosen, answer.gtin, answer
@@ -247,11 +247,6 @@ def _usual_kind(text: str, answer: Answer) -> Kind:
     digits = digits_of(text if identifier is None else text[3:])
     # A scanner sends the eight digits of a UPC-E with the identifier of an EAN-13.
     return Kind.UPCE if identifier == "]E0" and len(digits) == 8 else _BY_IDENTIFIER.get(identifier or "") or _BY_LENGTH[len(digits)]
-
-
-def _elements(text: str, answer: Answer) -> str:
-    """The element string of a text, without a separator at its ends."""
-    return element_string(text if answer.identifier is None else text[3:]).strip("\x1d")
 
 
 def _kind(name: str) -> Optional[Kind]:
