@@ -87,8 +87,10 @@ class Amounts {
     // Whole numbers, since a price is rounded half up: all have a thousand million times their size.
     const decimals = DECIMALS.get(written.currency) ?? this.decimals, { number, scale } = exactAmount(written);
     const above = number * asked.size * 10n ** BigInt(decimals), below = measure.size * scale;
-    const digits = String((2n * above + below) / (2n * below)).padStart(decimals + 1, "0"), at = digits.length - decimals;
-    const amount = digits.slice(0, at) + (decimals ? (written.point || this.point || decimalSign()) + digits.slice(at) : "");
+    const digits = String((2n * above + below) / (2n * below)).padStart(decimals + 1, "0"),
+      at = digits.length - decimals;
+    const amount = digits.slice(0, at)
+      + (decimals ? (written.point || this.point || decimalSign()) + digits.slice(at) : "");
     const named = unit.replace(/^([0-9]*) ?/, (_, count) => `${count || 1} `);
     return { price: `${named} = ${written.before}${amount}${written.after}` };
   }
@@ -170,7 +172,8 @@ function measureOf(text) {
   const [, times = "1", count = "1", unit = ""] = text.match(MEASURE) ?? [];
   if (!unit || /[1-9][0-9]*[.,][0-9]{3}$/.test(count)) return undefined;
   const [kind, size] = UNITS[unit.toLowerCase()], [whole, fraction = ""] = count.split(/[.,]/);
-  return { kind, size: BigInt(times) * BigInt(whole + fraction) * BigInt(1000 * size) * 10n ** 6n / 10n ** BigInt(fraction.length) };
+  return { kind,
+    size: BigInt(times) * BigInt(whole + fraction) * BigInt(1000 * size) * 10n ** 6n / 10n ** BigInt(fraction.length) };
 }
 
 /**
@@ -187,7 +190,8 @@ function exactAmount({ whole, fraction }) {
  * @param {string} other
  */
 function isAbove(price, other) {
-  const [one, two] = [price, other].map((it) => exactAmount(writtenPrice(it) ?? /** @type {Written} */ ({ whole: "0", fraction: "" })));
+  const [one, two] = [price, other]
+    .map((it) => exactAmount(writtenPrice(it) ?? /** @type {Written} */ ({ whole: "0", fraction: "" })));
   return one.number * two.scale > two.number * one.scale;
 }
 

@@ -1,3 +1,4 @@
+// @ts-check
 // The articles of a list: what is printed on a label, and as which kind of barcode. As
 // python/noriladle/labels/_articles.py.
 "use strict";
@@ -124,13 +125,15 @@ function articleOf(table, record, { amounts, widths, numbers, units }) {
     shown[1] = amounts.ofUnit(printed.price, unit ? `${content} ${unit}` : content, units);
   }
   const doubt = shown.find(({ fault }) => fault);
-  return { ...article, ...(doubt ?? { ...symbol, ...printed, fields: shown.map((it) => it.price), lines, copies: Number(copies || 1) }) };
+  return { ...article,
+    ...(doubt ?? { ...symbol, ...printed, fields: shown.map((it) => it.price), lines, copies: Number(copies || 1) }) };
 }
 
-// A field of a label as it shows it: the cell, behind the heading of its column if that says what it is; or why nobody can
-// say what it means.
+// A field of a label as it shows it: the cell, behind the heading of its column if that says what it is; or why nobody
+// can say what it means.
 function fieldOf(meaning, cell, caption, price, amounts) {
-  const withCaption = (text) => ({ price: trimmed(text && `${caption} ${text}`) }), fault = (key) => ({ fault: { key, values: [shortText(cell)] } });
+  const withCaption = (text) => ({ price: trimmed(text && `${caption} ${text}`) }),
+    fault = (key) => ({ fault: { key, values: [shortText(cell)] } });
   if (meaning === "batch") return withCaption(cell);
   if (meaning === "best-before") return /[0-9].*[^0-9]|[^0-9].*[0-9]/.test(cell) ? withCaption(cell) : fault("noDay");
   if (meaning === "unit-price" && cell.includes("=") && UNIT.test(cell)) return { price: cell };
@@ -143,6 +146,7 @@ function fieldOf(meaning, cell, caption, price, amounts) {
 }
 
 // What is typed as the number of a record, and its symbol; or why there is none.
+/** @returns {any} */
 function symbolOfRecord(cell) {
   const gtin = stripped(cell("gtin")), elements = stripped(cell("gs1")), typed = gtin || elements;
   if (gtin && elements) return { typed, fault: { key: "twoNumbers" } };
@@ -160,16 +164,18 @@ const copiesFault = (copies) => copies && !(/^[0-9]{1,4}$/.test(copies) && Numbe
 // The kind of a text, what is printed and what it says; or why there is none.
 function symbolTold(text, named) {
   const short = named.replace(/[^\S\ufeff]|-/g, "").toLowerCase();
-  if (short && !Gs1.kinds.includes(short)) return { fault: { key: "noKind", values: [shortText(named), Gs1.kinds.join(", ")] } };
+  if (short && !Gs1.kinds.includes(short))
+    return { fault: { key: "noKind", values: [shortText(named), Gs1.kinds.join(", ")] } };
   // Eight digits may be both. A UPC-E begins with 0.
-  const digits = digitsOf(text), mark = /^\p{Nd}{8}$/u.test(digits) && { upce: /^[1-9]/.test(digits) ? "" : "]E0", ean8: "]E4" }[short];
-  const asked = mark ? mark + digits : text, answer = readText(asked);
+  const digits = digitsOf(text),
+    mark = /^\p{Nd}{8}$/u.test(digits) && { upce: /^[1-9]/.test(digits) ? "" : "]E0", ean8: "]E4" }[short];
+  const asked = mark ? mark + digits : text, answer = /** @type {any} */ (readText(asked));
   if (answer.refused) return faultOfText(text, remedyOf(text, answer.refused), answer.refused);
   const says = answer.elements.map(({ ai, value }) => `(${ai})${value}`).join("");
   const isLink = ["]Q1", "]d1"].includes(answer.identifier) || /^http/i.test(text);
   if (isLink) return faultOfText(text, { key: "link", values: [says] });
   const usual = usualKind(asked, answer), kind = short || usual, gtin = gtinOf(answer.elements);
-  if (kind === "gs1128") return { kind, text: usual === kind ? elementsTyped(asked, answer) : `01${gtin}`, answer };
+  if (kind === "gs1128") return { kind, text: usual === kind ? answer.text : `01${gtin}`, answer };
   if (!gtin || answer.elements.length > 1) return faultOfText(text, { key: "notAlone" });
   return { kind, text: gtin, answer };
 }
@@ -182,7 +188,3 @@ function usualKind(text, { identifier }) {
   return identifier === "]E0" && digits.length === 8 ? "upce"
     : KINDS_OF_IDENTIFIER[identifier] ?? KINDS_OF_LENGTH[digits.length];
 }
-
-// The element string of a text, without a separator at its ends.
-const elementsTyped = (text, { identifier }) => elementString(identifier ? text.slice(3) : text)
-  .replace(/^\x1d+|\x1d+$/g, "");

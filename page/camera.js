@@ -1,3 +1,4 @@
+// @ts-check
 // Reads the frames of a camera: until two agree, or one code after another.
 "use strict";
 
@@ -28,7 +29,8 @@ async function startCamera() {
   if (starting) return;
   starting = true;
   try {
-    stream = await navigator.mediaDevices.getUserMedia({ video: { facingMode: "environment", width: { ideal: 1280 } } });
+    stream =
+      await navigator.mediaDevices.getUserMedia({ video: { facingMode: "environment", width: { ideal: 1280 } } });
   } catch (error) {
     at("read-fault").textContent = cameraProblem(error);
     return;
@@ -55,6 +57,7 @@ async function startCamera() {
 }
 
 // A frame of the camera as a picture.
+/** @returns {any} */
 function frameOf(video) {
   const canvas = new OffscreenCanvas(video.videoWidth, video.videoHeight);
   const pen = canvas.getContext("2d", { willReadFrequently: true });
@@ -62,7 +65,7 @@ function frameOf(video) {
   return { ...greyOf(pen.getImageData(0, 0, canvas.width, canvas.height)), image: canvas, name: "" };
 }
 
-// Waits for the next frame of the video, and says whether there is one. If the browser announces none, waits for a while.
+// Waits for the next frame of the video, and says whether there is one; for a while, if the browser announces none.
 function nextFrame(video) {
   return new Promise((done) => {
     if (video.requestVideoFrameCallback) video.requestVideoFrameCallback(() => done(true));
@@ -70,7 +73,8 @@ function nextFrame(video) {
   });
 }
 
-// Reads frame by frame. If two in a row show the same, it holds the second and ends the camera; in a series it keeps the codes and goes on.
+// Reads frame by frame. If two in a row show the same, it holds the second and ends the camera; in a series it keeps
+// the codes and goes on.
 async function readFrames() {
   const mine = stream;
   let before = "";
@@ -99,7 +103,8 @@ function hold(frame) {
 // Puts what a frame shows before the codes of its series, each once.
 function keep({ symbols: seen }) {
   const isOpen = pictures[0]?.series && pictures[0].stream === stream;
-  const series = isOpen ? pictures[0] : { series: true, name: "", symbols: [], stream }, before = new Set(series.symbols.map(({ line }) => line));
+  const series = isOpen ? pictures[0] : { series: true, name: "", symbols: [], stream },
+    before = new Set(series.symbols.map(({ line }) => line));
   const added = seen.filter(({ line }) => !before.has(line));
   if (!added.length) return;
   series.symbols = [...added.reverse(), ...series.symbols];

@@ -5,7 +5,7 @@
 
 /**
  * What a person said about a list: the column of a meaning, by its index, or -1 for none; and whether 0 is a price.
- * @typedef {{ columns: Record<string, number>, isFree: boolean }} Answers
+ * @typedef {{ columns: Record<string, number>, isFree: boolean, units?: string[] }} Answers
  *
  * A list whose columns are known: its records that have a number; where each meaning's columns are; the errors of lines
  * that are no records, and what stands in them; the line of the heading if titles stand above it; how many cells a
@@ -82,7 +82,8 @@ function knownHeading(heading) {
     return { meaning: "gtin", rank: LONGER * (1 + Number(at > 0) + 3 * Number(isCase)) + (known[at]?.rank ?? 0) };
   }
   const { meaning = "", rank = 0 } = known[0] ?? {}, isNumber = words.slice(1).some((word) => NUMBER_WORDS.has(word));
-  return meaning === "name" && isNumber || BESIDE.includes(meaning) ? { meaning: "", rank: 0 } : { meaning, rank: LONGER + rank };
+  return meaning === "name" && isNumber || BESIDE.includes(meaning) ? { meaning: "", rank: 0 }
+    : { meaning, rank: LONGER + rank };
 }
 
 /** @param {string} cell */
@@ -210,7 +211,8 @@ class Look {
     delete places.price;
     if (choice.length === 1 && !this.none.has("price")) places.price = choice;
     // A column of prices of a unit says of what they are, or a person wants it.
-    const hasUnit = (/** @type {number} */ place) => this.asked["unit-price"] || this.records.some(({ cells }) => UNIT.test(cells[place] ?? ""));
+    const hasUnit = (/** @type {number} */ place) =>
+      this.asked["unit-price"] || this.records.some(({ cells }) => UNIT.test(cells[place] ?? ""));
     for (const meaning of BESIDE) {
       const [place] = places[meaning] ?? [];
       if (place === places.price?.[0] || meaning === "unit-price" && !hasUnit(place)) delete places[meaning];
@@ -313,7 +315,8 @@ class Look {
     if (!this.hasHeading) return this.isLines ? [] : this.amounts(free, records);
     const found = free.flatMap((place) => {
       const heading = priceHeading(this.first.cells[place] ?? "");
-      return heading && (this.hasCells(place) || !records.length) ? [{ place, heading, cells: this.filled(place) }] : [];
+      return heading && (this.hasCells(place) || !records.length)
+        ? [{ place, heading, cells: this.filled(place) }] : [];
     });
     const flags = found.filter(({ cells }) => cells.length && cells.every((cell) => FLAGS.has(cell)));
     const best = shelfPrices(found), others = shelfPrices(found.filter((one) => !flags.includes(one)));
@@ -337,7 +340,8 @@ class Look {
    * @param {Places} places
    */
   free(places) {
-    const taken = new Set(Object.entries(places).flatMap(([meaning, its]) => ["price", ...BESIDE].includes(meaning) ? [] : its));
+    const taken =
+      new Set(Object.entries(places).flatMap(([meaning, its]) => ["price", ...BESIDE].includes(meaning) ? [] : its));
     return Array.from({ length: this.wide }, (_, place) => place).filter((place) => !taken.has(place));
   }
 

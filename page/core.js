@@ -1,3 +1,4 @@
+// @ts-check
 // The page's calls of the proved module, beside those of gs1.js, and the meaning of its lines in words.
 "use strict";
 
@@ -20,7 +21,8 @@ const core = {
   picture: (picture, level) => symbolsShown(gs1.picture(picture, level, core.terms)),
 
   // A text without room in the module's memory is too long for any code.
-  scan: (text) => text.length > 65536 ? { refused: "refused 11 TooLong" } : gs1.read("gs1_c_read_message", ...gs1.put(text), core.terms),
+  typed: (text) => text.length > 65536 ? { refused: "refused 11 TooLong" }
+    : gs1.read("gs1_c_read_text", ...gs1.put(text), core.terms),
 
   // What the line of an answer says, with its elements as data.
   said: (line) => gs1.said(line, core.terms),
@@ -32,20 +34,25 @@ function refusalOf(line) {
   return { number: fault, name: Gs1.faults[fault], place };
 }
 
-// What a value means for a person, beyond its digits: a day, a weight, an amount of money, countries, a place; or nothing.
+// What a value means for a person, beyond its digits: a day, a weight, an amount of money, countries, a place.
 function meaningOfElement({ ai, value, date, time, until }) {
   const number = numberOf(ai, value), place = placeOf(ai, value);
   if (date) return until ? `${inWords(date)} – ${inWords(until)}` : inWords(date, time);
-  if (number !== undefined) return [amountOf(number), unitOf(ai) ?? currencyOf(ai, value) ?? (/^39[13]/.test(ai) ? value.slice(0, 3) : "")].filter(Boolean).join(" ");
+  if (number !== undefined)
+    return [amountOf(number),
+      unitOf(ai) ?? currencyOf(ai, value) ?? (/^39[13]/.test(ai) ? value.slice(0, 3) : "")].filter(Boolean).join(" ");
   if (place) return `${place.latitude}, ${place.longitude}`;
-  if (ai === "01" || ai === "02") return /^0{6}/.test(value) ? `EAN-8 ${value.slice(6)}` : /^00/.test(value) ? `UPC-A ${value.slice(2)}` : value[0] === "0" ? `EAN-13 ${value.slice(1)}` : "";
+  if (ai === "01" || ai === "02")
+    return /^0{6}/.test(value) ? `EAN-8 ${value.slice(6)}` : /^00/.test(value) ? `UPC-A ${value.slice(2)}`
+      : value[0] === "0" ? `EAN-13 ${value.slice(1)}` : "";
   if (ai === "30" || ai === "37") return `${Number(value)} ${t("pieces")}`;
   const names = new Intl.DisplayNames([language], { type: "region" });
   return countriesOf(ai, value).map((letters) => names.of(letters)).join(", ");
 }
 
 // A number with its decimals, as the language of the page writes it.
-const amountOf = (number) => Number(number).toLocaleString(language, { minimumFractionDigits: number.split(".")[1]?.length ?? 0, maximumFractionDigits: 20 });
+const amountOf = (number) => Number(number).toLocaleString(language,
+  { minimumFractionDigits: number.split(".")[1]?.length ?? 0, maximumFractionDigits: 20 });
 
 // A day in the language of the page, perhaps with a time.
 function inWords(date, time) {

@@ -1,8 +1,11 @@
-// Drawn pages of labels as SVG, PDF, PNG and ZPL, each with every bar at its dots. A page is a list of { left, top, drawing } in dots.
+// @ts-check
+// Drawn pages of labels as SVG, PDF, PNG and ZPL, each with every bar at its dots. A page is a list of
+// { left, top, drawing } in dots.
 "use strict";
 
 // A text in XML, which has no control characters (XML 1.0, 2.2).
-const escaped = (text) => text.replace(/[^\t\n\r -\ud7ff\ue000-\ufffd\u{10000}-\u{10ffff}]/gu, "\ufffd").replace(/[&<>"]/g, (sign) => `&#${sign.charCodeAt(0)};`);
+const escaped = (text) => text.replace(/[^\t\n\r -\ud7ff\ue000-\ufffd\u{10000}-\u{10ffff}]/gu, "\ufffd")
+  .replace(/[&<>"]/g, (sign) => `&#${sign.charCodeAt(0)};`);
 const places = (number) => String(Math.round(number * 100) / 100);
 
 // ---- SVG
@@ -11,18 +14,22 @@ const places = (number) => String(Math.round(number * 100) / 100);
 function svgOfLabel({ left, top, drawing }) {
   const path = drawing.boxes.map(([x, y, width, height]) => `M${x} ${y}h${width}v${height}h${-width}z`).join("");
   const texts = drawing.texts.map((text) => {
-    const pieces = piecesOf(text), fit = text.cell ? "" : ` textLength="${places(pieces[0].wide)}" lengthAdjust="spacingAndGlyphs"`;
-    return `<text x="${pieces.map(({ middle }) => places(middle)).join(" ")}" y="${places(text.base)}" font-size="${places(text.size)}"`
-      + `${text.isBold ? ' font-weight="bold"' : text.isStruck ? ' class="struck"' : ""}${fit}>${escaped(text.text)}</text>`;
+    const pieces = piecesOf(text),
+      fit = text.cell ? "" : ` textLength="${places(pieces[0].wide)}" lengthAdjust="spacingAndGlyphs"`;
+    const look = text.isBold ? ' font-weight="bold"' : text.isStruck ? ' class="struck"' : "";
+    return `<text x="${pieces.map(({ middle }) => places(middle)).join(" ")}" y="${places(text.base)}"`
+      + ` font-size="${places(text.size)}"${look}${fit}>${escaped(text.text)}</text>`;
   });
-  return `<g transform="translate(${left} ${top})"><path d="${path}" shape-rendering="crispEdges"/>${texts.join("")}</g>`;
+  return `<g transform="translate(${left} ${top})"><path d="${path}" shape-rendering="crispEdges"/>`
+    + `${texts.join("")}</g>`;
 }
 
 // A page at its size in millimetres; `below` is drawn under the labels.
 function svgOfPage(page, stock, dots, below = "") {
   const [width, height] = [stock.page.width * dots, stock.page.height * dots];
-  return `<svg xmlns="http://www.w3.org/2000/svg" width="${stock.page.width}mm" height="${stock.page.height}mm" viewBox="0 0 ${places(width)} ${places(height)}"`
-    + ` font-family="${FAMILY}" text-anchor="middle"><rect width="100%" height="100%" fill="white"/>${below}${page.map(svgOfLabel).join("\n")}</svg>\n`;
+  return `<svg xmlns="http://www.w3.org/2000/svg" width="${stock.page.width}mm" height="${stock.page.height}mm"`
+    + ` viewBox="0 0 ${places(width)} ${places(height)}" font-family="${FAMILY}" text-anchor="middle">`
+    + `<rect width="100%" height="100%" fill="white"/>${below}${page.map(svgOfLabel).join("\n")}</svg>\n`;
 }
 
 // ---- dots
@@ -45,7 +52,8 @@ function paintText(pen, text) {
 }
 
 function canvasOf(width, height) {
-  const canvas = new OffscreenCanvas(Math.max(1, Math.ceil(width)), Math.max(1, Math.ceil(height))), pen = canvas.getContext("2d", { willReadFrequently: true });
+  const canvas = new OffscreenCanvas(Math.max(1, Math.ceil(width)), Math.max(1, Math.ceil(height))),
+    pen = canvas.getContext("2d", { willReadFrequently: true });
   pen.fillStyle = "white";
   pen.fillRect(0, 0, canvas.width, canvas.height);
   pen.fillStyle = "black";
@@ -93,7 +101,8 @@ function joinedBytes(parts) {
 }
 
 async function pngOfPage(page, stock, dpi) {
-  const dots = DOTS_IN_MM[dpi], { canvas, pen } = canvasOf(Math.round(stock.page.width * dots), Math.round(stock.page.height * dots));
+  const dots = DOTS_IN_MM[dpi],
+    { canvas, pen } = canvasOf(Math.round(stock.page.width * dots), Math.round(stock.page.height * dots));
   for (const { left, top, drawing } of page) {
     pen.setTransform(1, 0, 0, 1, left, top);
     for (const box of drawing.boxes) pen.fillRect(...box);
@@ -107,7 +116,8 @@ async function pngOfPage(page, stock, dpi) {
 // A label as ZPL: a box for each bar, and all texts as one field of dots, so it needs no font of the printer's.
 function zplOfLabel(drawing, { width, height }, copies) {
   const boxes = drawing.boxes.map(([x, y, wide, high]) => `^FO${x},${y}^GB${wide},${high},${Math.min(wide, high)}^FS`);
-  return ["^XA", `^PW${width}`, `^LL${height}`, "^LH0,0", ...boxes, zplOfTexts(drawing.texts, width, height), `^PQ${copies}`, "^XZ", ""].join("\n");
+  return ["^XA", `^PW${width}`, `^LL${height}`, "^LH0,0", ...boxes, zplOfTexts(drawing.texts, width, height),
+    `^PQ${copies}`, "^XZ", ""].join("\n");
 }
 
 function zplOfTexts(texts, width, height) {
@@ -124,16 +134,18 @@ function zplOfTexts(texts, width, height) {
     }
     rows.push(isBlank ? "," : zplOfRow(row));
   }
-  return `^FO0,0^GFA,${stride * height},${stride * height},${stride},${rows.map((row, y) => y && row === rows[y - 1] ? ":" : row).join("")}^FS`;
+  const told = rows.map((row, y) => y && row === rows[y - 1] ? ":" : row).join("");
+  return `^FO0,0^GFA,${stride * height},${stride * height},${stride},${told}^FS`;
 }
 
 const HEX = Array.from({ length: 256 }, (_, byte) => byte.toString(16).padStart(2, "0").toUpperCase());
 
-// A row in hexadecimal digits, 1 is dark: G to Y before a digit stand for 1 to 19 of it, g to z for 20 to 400, and a comma for zeros up
-// to the end.
+// A row in hexadecimal digits, 1 is dark: G to Y before a digit stand for 1 to 19 of it, g to z for 20 to 400, and a
+// comma for zeros up to the end.
 function zplOfRow(row) {
   const hex = Array.from(row, (byte) => HEX[byte]).join("").replace(/0+$/, ",");
-  const count = (times) => (times >= 20 ? "ghijklmnopqrstuvwxyz"[Math.floor(times / 20) - 1] : "") + (times % 20 ? "GHIJKLMNOPQRSTUVWXY"[times % 20 - 1] : "");
+  const count = (times) => (times >= 20 ? "ghijklmnopqrstuvwxyz"[Math.floor(times / 20) - 1] : "")
+    + (times % 20 ? "GHIJKLMNOPQRSTUVWXY"[times % 20 - 1] : "");
   return hex.replace(/([0-9A-F])\1{2,399}/g, (run, digit) => count(run.length) + digit);
 }
 
@@ -143,16 +155,24 @@ function zplOfRow(row) {
 const INSET = 0.05;
 
 // The byte of each sign in PDF's WinAnsiEncoding.
-const WIN_ANSI = new Map(Array.from(textIn(Uint8Array.from({ length: 256 }, (_, byte) => byte), "cp1252"), (sign, byte) => [sign, byte]));
-const pdfString = (text) => `<${Array.from(text, (sign) => WIN_ANSI.get(sign).toString(16).padStart(2, "0")).join("")}>`;
+const WIN_ANSI = new Map(Array.from(textIn(Uint8Array.from({ length: 256 }, (_, byte) => byte), "cp1252"),
+  (sign, byte) => [sign, byte]));
+const pdfString =
+  (text) => `<${Array.from(text, (sign) => WIN_ANSI.get(sign).toString(16).padStart(2, "0")).join("")}>`;
 
 async function deflated(bytes) {
-  return new Uint8Array(await new Response(new Blob([bytes]).stream().pipeThrough(new CompressionStream("deflate"))).arrayBuffer());
+  return new Uint8Array(
+    await new Response(new Blob([bytes]).stream().pipeThrough(new CompressionStream("deflate"))).arrayBuffer());
 }
 
 // A PDF file, object by object. Streams are compressed.
 class Pdf {
-  constructor() { [this.parts, this.size, this.at] = [[], 0, []]; this.put("%PDF-1.4\n%âãÏÓ\n"); }
+  constructor() {
+    this.parts = [];
+    this.size = 0;
+    this.at = [];
+    this.put("%PDF-1.4\n%âãÏÓ\n");
+  }
 
   put(part) {
     const bytes = typeof part === "string" ? Uint8Array.from(part, (sign) => sign.charCodeAt(0)) : part;
@@ -175,7 +195,8 @@ class Pdf {
 
   end(root) {
     const from = this.size, count = this.at.length;
-    this.put(`xref\n0 ${count}\n0000000000 65535 f \n${this.at.slice(1).map((at) => `${String(at).padStart(10, "0")} 00000 n \n`).join("")}`);
+    const offsets = this.at.slice(1).map((at) => `${String(at).padStart(10, "0")} 00000 n \n`).join("");
+    this.put(`xref\n0 ${count}\n0000000000 65535 f \n${offsets}`);
     this.put(`trailer\n<</Size ${count}/Root ${root} 0 R>>\nstartxref\n${from}\n%%EOF\n`);
     return joinedBytes(this.parts);
   }
@@ -183,34 +204,44 @@ class Pdf {
 
 // All pages as one PDF, which asks for printing at 100 %. Texts with characters that Helvetica lacks are pictures.
 async function pdfOf(pages, stock, dots) {
-  const pdf = new Pdf(), point = 72 / 25.4 / dots, [width, height] = [stock.page.width, stock.page.height].map((length) => places(length * 72 / 25.4));
+  const pdf = new Pdf(), point = 72 / 25.4 / dots,
+    [width, height] = [stock.page.width, stock.page.height].map((length) => places(length * 72 / 25.4));
   let next = 5;
   const kids = [];
   for (const page of pages) {
     const [number, content] = [next, next + 1], images = [];
     next += 2;
-    const code = page.map(({ left, top, drawing }) => `q ${point.toFixed(6)} 0 0 ${point.toFixed(6)} ${(left * point).toFixed(4)} ${(stock.page.height * 72 / 25.4 - top * point).toFixed(4)} cm\n${pdfOfLabel(drawing, images)}Q\n`).join("");
+    const down = (top) => (stock.page.height * 72 / 25.4 - top * point).toFixed(4);
+    const code = page.map(({ left, top, drawing }) =>
+      `q ${point.toFixed(6)} 0 0 ${point.toFixed(6)} ${(left * point).toFixed(4)} ${down(top)} cm\n`
+      + `${pdfOfLabel(drawing, images)}Q\n`).join("");
     await pdf.stream(content, new TextEncoder().encode(code));
-    for (const image of images) await pdf.stream(image.number = next++, image.grey, `/Type/XObject/Subtype/Image/ColorSpace/DeviceGray/BitsPerComponent 8/Width ${image.width}/Height ${image.height}`);
+    for (const image of images)
+      await pdf.stream(image.number = next++, image.grey, "/Type/XObject/Subtype/Image/ColorSpace/DeviceGray"
+        + `/BitsPerComponent 8/Width ${image.width}/Height ${image.height}`);
     const named = images.map(({ name, number: at }) => `/${name} ${at} 0 R`).join("");
-    pdf.object(number, `<</Type/Page/Parent 2 0 R/MediaBox[0 0 ${width} ${height}]/Contents ${content} 0 R/Resources<</Font<</F1 3 0 R/F2 4 0 R>>/XObject<<${named}>>>>>>`);
+    pdf.object(number, `<</Type/Page/Parent 2 0 R/MediaBox[0 0 ${width} ${height}]/Contents ${content} 0 R`
+      + `/Resources<</Font<</F1 3 0 R/F2 4 0 R>>/XObject<<${named}>>>>>>`);
     kids.push(number);
   }
   pdf.object(1, "<</Type/Catalog/Pages 2 0 R/ViewerPreferences<</PrintScaling/None>>>>");
   pdf.object(2, `<</Type/Pages/Count ${kids.length}/Kids[${kids.map((kid) => `${kid} 0 R`).join(" ")}]>>`);
-  ["Helvetica", "Helvetica-Bold"].forEach((name, i) => pdf.object(3 + i, `<</Type/Font/Subtype/Type1/BaseFont/${name}/Encoding/WinAnsiEncoding>>`));
+  ["Helvetica", "Helvetica-Bold"].forEach(
+    (name, i) => pdf.object(3 + i, `<</Type/Font/Subtype/Type1/BaseFont/${name}/Encoding/WinAnsiEncoding>>`));
   return pdf.end(1);
 }
 
 function pdfOfLabel({ boxes, texts }, images) {
-  const lines = boxes.map(([x, y, width, height]) => `${x + INSET} ${places(-y - height + INSET)} ${places(width - 2 * INSET)} ${places(height - 2 * INSET)} re`);
+  const lines = boxes.map(([x, y, width, height]) =>
+    `${x + INSET} ${places(-y - height + INSET)} ${places(width - 2 * INSET)} ${places(height - 2 * INSET)} re`);
   return `${lines.join("\n")} f\n${texts.map((text) => pdfOfText(text, images)).join("")}`;
 }
 
 function pdfOfText(text, images) {
   if (!isLatin(text.text)) return pdfOfImage(rasterOf(text), images);
   const [{ middle, wide }] = piecesOf(text), space = text.cell ? text.cell - wide : 0;
-  return `BT /F${text.isBold ? 2 : 1} ${places(text.size)} Tf ${space.toFixed(3)} Tc ${places(middle - wide / 2)} ${places(-text.base)} Td ${pdfString(text.text)} Tj ET\n`;
+  return `BT /F${text.isBold ? 2 : 1} ${places(text.size)} Tf ${space.toFixed(3)} Tc`
+    + ` ${places(middle - wide / 2)} ${places(-text.base)} Td ${pdfString(text.text)} Tj ET\n`;
 }
 
 function pdfOfImage(raster, images) {
@@ -229,15 +260,19 @@ function zipOf(files) {
     const bytes = new DataView(new ArrayBuffer(4 + fields.reduce((sum, [size]) => sum + size, 0)));
     bytes.setUint32(0, mark, true);
     let place = 4;
-    for (const [size, value] of fields) (size === 2 ? bytes.setUint16(place, value, true) : bytes.setUint32(place, value, true), place += size);
+    for (const [size, value] of fields)
+      (size === 2 ? bytes.setUint16(place, value, true) : bytes.setUint32(place, value, true), place += size);
     return new Uint8Array(bytes.buffer);
   };
   for (const { name, bytes } of files) {
-    const word = new TextEncoder().encode(name), both = [[2, 20], [2, 0x800], [2, 0], [2, 0], [2, 33], [4, crc32(bytes)], [4, bytes.length], [4, bytes.length], [2, word.length], [2, 0]];
+    const word = new TextEncoder().encode(name),
+      both = [[2, 20], [2, 0x800], [2, 0], [2, 0], [2, 33], [4, crc32(bytes)], [4, bytes.length], [4, bytes.length],
+        [2, word.length], [2, 0]];
     parts.push(record(0x04034b50, both), word, bytes);
     heads.push(record(0x02014b50, [[2, 20], ...both, [2, 0], [2, 0], [2, 0], [4, 0], [4, at]]), word);
     at += 30 + word.length + bytes.length;
   }
   const size = heads.reduce((sum, { length }) => sum + length, 0);
-  return joinedBytes([...parts, ...heads, record(0x06054b50, [[2, 0], [2, 0], [2, files.length], [2, files.length], [4, size], [4, at], [2, 0]])]);
+  return joinedBytes([...parts, ...heads,
+    record(0x06054b50, [[2, 0], [2, 0], [2, files.length], [2, files.length], [4, size], [4, at], [2, 0]])]);
 }

@@ -1,5 +1,6 @@
-// The font of labels, Helvetica or one with its widths (Arial, Liberation Sans), which every PDF reader has: the widths of texts, in
-// thousandths of their size, and where signs have ink.
+// @ts-check
+// The font of labels, Helvetica or one with its widths (Arial, Liberation Sans), which every PDF reader has: the widths
+// of texts, in thousandths of their size, and where signs have ink.
 "use strict";
 
 const FAMILY = "Arial, Helvetica, 'Liberation Sans', sans-serif";
@@ -22,7 +23,8 @@ const WIDTHS = {
 };
 
 const WIDTH_OF = Object.fromEntries(Object.entries(WIDTHS).map(([name, widths]) =>
-  [name, new Map(Object.entries(widths).flatMap(([width, signs]) => Array.from(signs, (sign) => [sign, width / 1000])))]));
+  [name,
+    new Map(Object.entries(widths).flatMap(([width, signs]) => Array.from(signs, (sign) => [sign, +width / 1000])))]));
 
 const measure = document.createElement("canvas").getContext("2d");
 
@@ -31,7 +33,8 @@ const isLatin = (text) => Array.from(text).every((sign) => WIDTH_OF.bold.has(sig
 
 // The width of a text in the unit of its size; for characters beyond Western Europe by the browser's font.
 function widthOfText(text, isBold) {
-  if (isLatin(text)) return Array.from(text).reduce((sum, sign) => sum + WIDTH_OF[isBold ? "bold" : "regular"].get(sign), 0);
+  if (isLatin(text))
+    return Array.from(text).reduce((sum, sign) => sum + WIDTH_OF[isBold ? "bold" : "regular"].get(sign), 0);
   measure.font = `${isBold ? "bold " : ""}100px ${FAMILY}`;
   return measure.measureText(text).width / 100;
 }
@@ -44,8 +47,10 @@ function inkOf(sign, isBold) {
   const key = `${Number(isBold)}${sign}`;
   if (!inks.has(key)) {
     measure.font = `${isBold ? "bold " : ""}100px ${FAMILY}`;
-    const { actualBoundingBoxLeft: left, actualBoundingBoxRight: right, actualBoundingBoxAscent: up, actualBoundingBoxDescent: down } = measure.measureText(sign);
-    inks.set(key, { left: Math.max(0, left / 100), right: right / 100, up: up / 100, down: down / 100, wide: widthOfText(sign, isBold) });
+    const { actualBoundingBoxLeft: left, actualBoundingBoxRight: right, actualBoundingBoxAscent: up,
+      actualBoundingBoxDescent: down } = measure.measureText(sign);
+    inks.set(key, { left: Math.max(0, left / 100), right: right / 100, up: up / 100, down: down / 100,
+      wide: widthOfText(sign, isBold) });
   }
   return inks.get(key);
 }
@@ -55,9 +60,12 @@ const ALWAYS = " …()0123456789", UP = 0.9, DOWN = 0.22;
 
 // A font of these signs as gs1.h has it. Lines are farther apart if some are higher than most.
 function fontOf(signs, isBold) {
-  const found = signs.map((sign) => ({ code: sign.codePointAt(0), ...inkOf(sign, isBold) })), unit = (length) => Math.min(65535, Math.ceil(16384 * length));
-  const most = (ofInk, least) => found.reduce((so, ink) => Math.max(so, ofInk(ink)), least), widths = new Uint16Array(1 + most(({ code }) => code, 0));
+  const found = signs.map((sign) => ({ code: sign.codePointAt(0), ...inkOf(sign, isBold) })),
+    unit = (length) => Math.min(65535, Math.ceil(16384 * length));
+  const most = (ofInk, least) => found.reduce((so, ink) => Math.max(so, ofInk(ink)), least),
+    widths = new Uint16Array(1 + most(({ code }) => code, 0));
   for (const { code, left, right, wide } of found) widths[code] = unit(left + Math.max(right, wide, 1e-4));
-  return { widths, other: unit(widthOfText("0", isBold)), up: unit(most(({ up }) => up, UP)), down: unit(most(({ down }) => down, DOWN)),
+  return { widths, other: unit(widthOfText("0", isBold)), up: unit(most(({ up }) => up, UP)),
+    down: unit(most(({ down }) => down, DOWN)),
     digits: unit(Math.max(...Array.from("0123456789", (digit) => inkOf(digit, isBold).up)) + 0.02) };
 }

@@ -1,24 +1,27 @@
-// The calls of the module. In both modules, that with 64-bit memory and that made of it for other browsers, pointers and counts have 64
-// bits, so they are BigInts. Each call writes its answer into a buffer of the page's, after the module's own memory.
+// @ts-check
+// The calls of the module. In both modules, that with 64-bit memory and that made of it for other browsers, pointers
+// and counts have 64 bits, so they are BigInts. Each call writes its answer into a buffer of the page's, after the
+// module's own memory.
 "use strict";
 
 class Gs1 {
   static kinds = ["ean13", "upca", "ean8", "upce", "gs1128", "itf14"];
 
-  // The kinds of symbols that scanners read, and the names of errors, by their numbers in gs1.h. tables/remedies writes the names.
-  static symbols = [undefined, "ean13", "upca", "upce", "ean8", "itf14", "gs1128", "databar", "datamatrix", "qr_code", "dotcode"];
+  // The kinds of symbols that scanners read, and the names of errors (from tables/remedies), by their numbers in gs1.h.
+  static symbols = [undefined, "ean13", "upca", "upce", "ean8", "itf14", "gs1128", "databar", "datamatrix",
+    "qr_code", "dotcode"];
   static faults = [
-    "", "Length", "NotDigit", "CheckDigit", "Empty", "UnknownAi", "ValueLength", "ValueCharacter", "ValueCheckDigit", "ValueDate",
-    "MissingSeparator", "TooLong", "TooManyCharacters", "CheckCharacter", "NotGs1", "FunctionCharacter", "CodeSet", "TooWide", "BadRuns",
-    "Blank", "RunCount", "QuietZone", "Modules", "Pattern", "SymbolCheckDigit", "BadGrid", "LabelKind", "LabelWidth", "NotP4", "PbmHeader",
-    "Truncated", "PbmSize", "Stranger", "BadCount", "Full", "Spent", "NoThread", "ReadFault", "WriteFault", "Csv", "Kind", "BadLane", "Words",
-    "NoMemory", "InputSize"
+    "", "Length", "NotDigit", "CheckDigit", "Empty", "UnknownAi", "ValueLength", "ValueCharacter", "ValueCheckDigit",
+    "ValueDate", "MissingSeparator", "TooLong", "TooManyCharacters", "CheckCharacter", "NotGs1", "FunctionCharacter",
+    "CodeSet", "TooWide", "BadRuns", "Blank", "RunCount", "QuietZone", "Modules", "Pattern", "SymbolCheckDigit",
+    "BadGrid", "LabelKind", "LabelWidth", "NotP4", "PbmHeader", "Truncated", "PbmSize", "Stranger", "BadCount", "Full",
+    "Spent", "NoThread", "ReadFault", "WriteFault", "Csv", "Kind", "BadLane", "Words", "NoMemory", "InputSize"
   ];
 
   // What is said of the identifiers of other symbols: keys of shop/. tables/remedies writes them.
   static identifiers = {
-    "]E1": "addOn", "]E2": "addOn", "]E3": "addOn", "]I0": "itfDigit", "]C0": "houseCode", "]e1": "composite", "]e2": "composite", "]e3":
-    "composite"
+    "]E1": "addOn", "]E2": "addOn", "]E3": "addOn", "]I0": "itfDigit", "]C0": "houseCode", "]e1": "composite", "]e2":
+    "composite", "]e3": "composite"
   };
 
   // Beside a year: accept every Application Identifier.
@@ -33,7 +36,8 @@ class Gs1 {
     return typeof WebAssembly === "object" && WebAssembly.validate(Uint8Array.of(...Gs1.header, ...Gs1.memories[bits]));
   }
 
-  // The module in this base64 text, whose memory has addresses of this many bits. A loop is many times as fast as `Uint8Array.from`.
+  // The module in this base64 text, whose memory has addresses of this many bits. A loop is many times as fast as
+  // `Uint8Array.from`.
   static async load(base64, bits) {
     const text = atob(base64), bytes = new Uint8Array(text.length);
     for (let i = 0; i < bytes.length; i++) bytes[i] = text.charCodeAt(i);
@@ -94,16 +98,17 @@ class Gs1 {
   // A text's place and length.
   put(text) { return [BigInt(this.input), BigInt(new TextEncoder().encodeInto(text, this.bytes).written)]; }
 
-  // The symbols of a row, from left to right: the first run, the number of runs and the line of each. Run i goes from `ends[i - 1]`, or 0, up to
-  // `ends[i]`, which is at most 65,535; the first and the last one are light.
+  // The symbols of a row, from left to right: the first run, the number of runs and the line of each. Run i goes from
+  // `ends[i - 1]`, or 0, up to `ends[i]`, which is at most 65,535; the first and the last one are light.
   find(ends, terms) {
     for (let i = 0; i < ends.length; i++) this.words[i] = ends[i] - (i ? ends[i - 1] : 0);
     const lines = this.told("gs1_c_find", BigInt(this.input), BigInt(ends.length), terms);
-    return Array.from(lines.matchAll(/(\d+) (\d+) (.*)\n/g), ([, first, runs, line]) => ({ first: Number(first), runs: Number(runs), line }));
+    return Array.from(lines.matchAll(/(\d+) (\d+) (.*)\n/g),
+      ([, first, runs, line]) => ({ first: Number(first), runs: Number(runs), line }));
   }
 
-  // The lines of a picture of grey values, by a level or 0 for its own. The grey values follow the room for an answer, and the working memory
-  // follows them.
+  // The lines of a picture of grey values, by a level or 0 for its own. The grey values follow the room for an answer,
+  // and the working memory follows them.
   picture({ width, height, grey }, level, terms) {
     const words = Number(this.calls.gs1_c_picture_room(width, height));
     let end = this.output + this.room;
@@ -123,8 +128,8 @@ class Gs1 {
   }
 }
 
-// What a barcode says, or why it says nothing: `struct gs1_answer` of gs1.h at this place of a memory. Its elements are made when they are
-// first asked for.
+// What a barcode says, or why it says nothing: `struct gs1_answer` of gs1.h at this place of a memory. Its elements are
+// made when they are first asked for.
 class RawAnswer {
   static decoder = new TextDecoder();
 
@@ -143,15 +148,20 @@ class RawAnswer {
 
   // The line of an error; empty if it is none.
   get refused() {
-    return this.fault ? `refused ${this.fault} ${Gs1.faults[this.fault]}${this.place === undefined ? "" : ` ${this.place}`}` : "";
+    return this.fault
+      ? `refused ${this.fault} ${Gs1.faults[this.fault]}${this.place === undefined ? "" : ` ${this.place}`}` : "";
   }
 
-  get elements() { return this.#elements ??= Array.from({ length: this.#places.byteLength / 18 }, (_, i) => this.#element(18 * i)); }
+  get elements() {
+    return this.#elements ??= Array.from({ length: this.#places.byteLength / 18 }, (_, i) => this.#element(18 * i));
+  }
 
   // The element at a place.
   #element(at) {
-    const byte = (i) => this.#places.getUint8(at + i), digits = (i) => String(byte(i)).padStart(2, "0"), named = byte(3);
-    const day = (i) => `${String(this.#places.getUint16(at + i, true)).padStart(4, "0")}-${digits(i + 2)}-${digits(i + 3)}`;
+    const byte = (i) => this.#places.getUint8(at + i), digits = (i) => String(byte(i)).padStart(2, "0"),
+      named = byte(3);
+    const day = (i) =>
+      `${String(this.#places.getUint16(at + i, true)).padStart(4, "0")}-${digits(i + 2)}-${digits(i + 3)}`;
     return {
       ai: this.text.slice(byte(0), byte(1)),
       value: this.text.slice(byte(1), byte(2)),
@@ -168,8 +178,8 @@ function gtinOf(elements) {
   return values.size === 1 ? [...values][0] : undefined;
 }
 
-// The symbols in the lines of a picture, in reading order, each with its corners, how many rows show it and what it says, and how many more
-// there are, at least; for a picture without a symbol, the line that says why.
+// The symbols in the lines of a picture, in reading order, each with its corners, how many rows show it and what it
+// says, and how many more there are, at least; for a picture without a symbol, the line that says why.
 function symbolsShown(lines) {
   if (!lines.endsWith("\n")) return { symbols: [], dropped: 0, reason: lines };
   const symbols = Array.from(lines.matchAll(/^((?:\d+ ){8})(\d+) (.*)$/gm), ([, places, rows, said]) => {

@@ -1,3 +1,4 @@
+// @ts-check
 // The task "labels": makes sheets of labels on the chosen stock from a price list; shows, prints and saves them.
 "use strict";
 
@@ -13,7 +14,8 @@ const pause = () => new Promise((done) => setTimeout(done));
 
 function stockChosen() {
   if (at("stock").value !== "own") return stockOf(STOCKS[at("stock").value]);
-  const [columns, rows, width, height, gapX, gapY] = ["columns", "rows", "width", "height", "gap-x", "gap-y"].map((id) => at(`own-${id}`).value.replace(",", ".") || "0");
+  const [columns, rows, width, height, gapX, gapY] = ["columns", "rows", "width", "height", "gap-x", "gap-y"]
+    .map((id) => at(`own-${id}`).value.replace(",", ".") || "0");
   return stockOf(`${columns}x${rows}:${width}x${height}+${gapX}+${gapY}`);
 }
 
@@ -24,7 +26,8 @@ const firstCell = () => Number(at("first").value || 1) - 1;
 // What is wrong with the stock or its first free label.
 function stockFault(stock) {
   if (!stock) return t("ownFault");
-  return stock.isRoll || /^[1-9][0-9]*$/.test(at("first").value || "1") && firstCell() < stock.cells ? "" : t("firstFault", stock.cells);
+  return stock.isRoll || /^[1-9][0-9]*$/.test(at("first").value || "1") && firstCell() < stock.cells ? ""
+    : t("firstFault", stock.cells);
 }
 
 // ---- making
@@ -36,7 +39,8 @@ async function makeLabels() {
   // Half-drawn labels are neither printed nor saved.
   for (const id of OUTPUTS) at(id).disabled = true;
   if (stockFault(stock)) return;
-  const dpi = dpiFor(stock), cell = cellOf(stock, DOTS_IN_MM[dpi]), { articles: all, columns, notes, question } = listRead();
+  const dpi = dpiFor(stock), cell = cellOf(stock, DOTS_IN_MM[dpi]),
+    { articles: all, columns, notes, question } = listRead();
   const items = [], labels = [], faults = [], each = eachInTime(turn, from), { articles, missing } = scannedOf(all);
   keepList();
   showScanned(question ? [] : missing);
@@ -44,13 +48,15 @@ async function makeLabels() {
   showNotes(notes);
   showColumns(columns);
   const layout = new Layout(articles.filter(({ fault }) => !fault), cell, at("look").value, Number(at("module").value));
-  if (!await each(articles, (article) => items.push({ ...article, fault: article.fault ?? layout.measure(article) }))) return;
+  if (!await each(articles, (article) => items.push({ ...article, fault: article.fault ?? layout.measure(article) })))
+    return;
   layout.plan();
   shop.made = { stock, dpi, cell, labels, faults, question, isDone: false };
   const drawn = (item) => {
     const drawing = item.fault ? item : layout.draw(item);
     if (drawing.fault) return faults.push({ ...item, fault: drawing.fault });
-    if (labels.length + item.copies > MOST_LABELS) return faults.push({ ...item, fault: { key: "manyLabels", values: [MOST_LABELS] } });
+    if (labels.length + item.copies > MOST_LABELS)
+      return faults.push({ ...item, fault: { key: "manyLabels", values: [MOST_LABELS] } });
     const before = labels.length;
     for (let i = 0; i < item.copies; i++) labels.push(drawing);
     // Show the first sheet as soon as it is full.
@@ -69,7 +75,8 @@ function eachInTime(turn, from) {
     for (let i = 0; i < list.length; i++) {
       work(list[i]);
       if (performance.now() - last < 60) continue;
-      if (performance.now() - from > 300) at("labels-told").textContent = t("drawing", countText(i + 1), countText(list.length));
+      if (performance.now() - from > 300)
+        at("labels-told").textContent = t("drawing", countText(i + 1), countText(list.length));
       await pause();
       if (turn !== shop.turns) return false;
       last = performance.now();
@@ -92,25 +99,34 @@ function pageOf(number) {
   return page;
 }
 
-const pageCount = () => Math.ceil(((shop.made.stock.isRoll ? 0 : firstCell()) + shop.made.labels.length) / shop.made.stock.cells);
+const pageCount =
+  () => Math.ceil(((shop.made.stock.isRoll ? 0 : firstCell()) + shop.made.labels.length) / shop.made.stock.cells);
 const allPages = () => Array.from({ length: pageCount() }, (_, number) => pageOf(number));
 
-const svgElement = (text) => document.importNode(new DOMParser().parseFromString(text, "image/svg+xml").documentElement, true);
+const svgElement =
+  (text) => document.importNode(new DOMParser().parseFromString(text, "image/svg+xml").documentElement, true);
 
 // The edges of the labels, only on the screen. Labels before the first free one are used up.
 function gridOf(stock, dots, used) {
   return Array.from({ length: stock.cells }, (_, cell) => {
-    const { left, top } = stock.place(cell), [x, y, width, height] = [left, top, stock.width, stock.height].map((length) => places(length * dots));
-    return `<rect class="cell${cell < used ? " used" : ""}" data-cell="${cell}" x="${x}" y="${y}" width="${width}" height="${height}" rx="${places(1.5 * dots)}"/>`;
+    const { left, top } = stock.place(cell),
+      [x, y, width, height] = [left, top, stock.width, stock.height].map((length) => places(length * dots));
+    return `<rect class="cell${cell < used ? " used" : ""}" data-cell="${cell}" x="${x}" y="${y}" width="${width}"`
+      + ` height="${height}" rx="${places(1.5 * dots)}"/>`;
   }).join("");
 }
 
 function showSheet() {
   const { stock, dpi, labels } = shop.made, dots = DOTS_IN_MM[dpi], count = Math.max(1, pageCount());
   shop.page = Math.min(shop.page, count - 1);
-  const used = shop.page || stock.isRoll ? 0 : firstCell(), sheet = svgElement(svgOfPage(pageOf(shop.page), stock, dots, gridOf(stock, dots, used)));
+  const used = shop.page || stock.isRoll ? 0 : firstCell(),
+    sheet = svgElement(svgOfPage(pageOf(shop.page), stock, dots, gridOf(stock, dots, used)));
   sheet.setAttribute("role", "img");
-  sheet.setAttribute("aria-label", labels.length ? t("sheetLabel", countText(shop.page + 1), countText(count), pageOf(shop.page).map(({ drawing: { item } }) => [item.name.slice(0, MOST_NAME_TOLD), item.price, item.text].filter(Boolean).join(" ")).join("; ")) : t("sheetEmpty"));
+  const said = ({ drawing: { item: { name, price, text } } }) =>
+    [name.slice(0, MOST_NAME_TOLD), price, text].filter(Boolean).join(" ");
+  sheet.setAttribute("aria-label", labels.length
+    ? t("sheetLabel", countText(shop.page + 1), countText(count), pageOf(shop.page).map(said).join("; "))
+    : t("sheetEmpty"));
   at("paper").replaceChildren(sheet);
   at("paper").className = `${shop.zoom}${stock.isRoll ? " roll" : ""}`;
   at("sheet-no").textContent = t("sheetNo", countText(shop.page + 1), countText(count));
@@ -118,7 +134,9 @@ function showSheet() {
   at("next").disabled = shop.page >= count - 1;
   at("pager").hidden = count < 2;
   at("empty").hidden = labels.length > 0;
-  at("sizes").textContent = stock.isRoll ? t("sizeRoll", mm(stock.width), mm(stock.height), dpi) : t("sizeSheet", mm(stock.width), mm(stock.height), PAGE_NAMES[stock.page.name] ?? stock.page.name, mm(stock.page.width), mm(stock.page.height), dpi);
+  at("sizes").textContent = stock.isRoll ? t("sizeRoll", mm(stock.width), mm(stock.height), dpi)
+    : t("sizeSheet", mm(stock.width), mm(stock.height), PAGE_NAMES[stock.page.name] ?? stock.page.name,
+      mm(stock.page.width), mm(stock.page.height), dpi);
 }
 
 const PAGE_NAMES = { a4: "A4", letter: "Letter" };
@@ -131,7 +149,10 @@ function showLabels() {
   at("first").max = stock.cells;
   at("first-field").hidden = stock.isRoll;
   const sum = count ? `${many("labelCount", count)} ${stock.isRoll ? t("onRoll") : many("onSheets", pageCount())}` : "";
-  at("labels-told").replaceChildren(...toldParts([sum, ""], [faults.length ? many("leftOut", faults.length) : "", "wrong"], [question ? t("oneQuestion") : "", ""], [sum || faults.length || question ? "" : at("list").value.trim() ? remedyText({ key: "noLabels" }) : t("noList"), "soft-told"]));
+  const none = at("list").value.trim() ? remedyText({ key: "noLabels" }) : t("noList");
+  at("labels-told").replaceChildren(...toldParts(
+    [sum, ""], [faults.length ? many("leftOut", faults.length) : "", "wrong"], [question ? t("oneQuestion") : "", ""],
+    [sum || faults.length || question ? "" : none, "soft-told"]));
   at("example").hidden = at("list").value.trim() !== "";
   at("clear").hidden = !at("example").hidden;
   for (const id of OUTPUTS) at(id).disabled = !count;
@@ -148,7 +169,8 @@ function showWarnings() {
       told.set(warning.key, { count: count + 1, worst: warning.rank < worst.rank ? warning : worst });
     }
   }
-  at("warnings").replaceChildren(...[...told.values()].map(({ count, worst }) => make("li", {}, `${many("labelCount", count)}: ${remedyText(worst)}`)));
+  at("warnings").replaceChildren(...[...told.values()].map(
+    ({ count, worst }) => make("li", {}, `${many("labelCount", count)}: ${remedyText(worst)}`)));
 }
 
 // ---- printing and saving
@@ -179,8 +201,12 @@ async function savePages(ending, type, bytesOf) {
 }
 
 const SAVES = {
-  pdf: async ({ stock, dpi }) => { save(await pdfOf(allPages(), stock, DOTS_IN_MM[dpi]), "labels.pdf", "application/pdf"); note(t("saved")); },
-  svg: ({ stock, dpi }) => savePages("svg", "image/svg+xml", (page) => new TextEncoder().encode(svgOfPage(page, stock, DOTS_IN_MM[dpi]))),
+  pdf: async ({ stock, dpi }) => {
+    save(await pdfOf(allPages(), stock, DOTS_IN_MM[dpi]), "labels.pdf", "application/pdf");
+    note(t("saved"));
+  },
+  svg: ({ stock, dpi }) =>
+    savePages("svg", "image/svg+xml", (page) => new TextEncoder().encode(svgOfPage(page, stock, DOTS_IN_MM[dpi]))),
   png: ({ stock, dpi }) => savePages("png", "image/png", (page) => pngOfPage(page, stock, dpi)),
   // One after another, each once, with its number of copies.
   zpl: async ({ cell, labels }) => {
@@ -199,10 +225,12 @@ const SAVES = {
 // ---- start
 
 function fillStocks() {
-  const groups = { a4: make("optgroup"), letter: make("optgroup"), rolls: make("optgroup") }, chosen = at("stock").value || memory.get("stock");
+  const groups = { a4: make("optgroup"), letter: make("optgroup"), rolls: make("optgroup") },
+    chosen = at("stock").value || memory.get("stock");
   for (const [name, text] of Object.entries(STOCKS)) {
     const stock = stockOf(text), size = `${mm(stock.width)} × ${mm(stock.height)} mm`;
-    const label = !stock.isRoll ? t("stockOption", size, stock.cells, name) : name === text ? size : `${size} · ${name}`;
+    const label = !stock.isRoll ? t("stockOption", size, stock.cells, name) : name === text ? size
+      : `${size} · ${name}`;
     groups[stock.isRoll ? "rolls" : stock.page.name].append(new Option(label, name));
   }
   for (const [name, group] of Object.entries(groups)) group.label = t(`group-${name}`);
@@ -213,8 +241,10 @@ function fillStocks() {
 // The modules that a printer can print, in whole dots.
 function fillModules() {
   const stock = stockChosen(), dots = DOTS_IN_MM[stock ? dpiFor(stock) : 300], before = at("module").value;
-  const options = modulesAllowed(SHOP.modules.cases, dots).map((module) => new Option(t("moduleOption", module, (module / dots).toLocaleString(language, { maximumFractionDigits: 3 })), module));
-  at("module").replaceChildren(new Option(t("automatic"), 0), ...options);
+  const options = modulesAllowed(SHOP.modules.cases, dots)
+    .map((module) => new Option(
+      t("moduleOption", module, (module / dots).toLocaleString(language, { maximumFractionDigits: 3 })), `${module}`));
+  at("module").replaceChildren(new Option(t("automatic"), "0"), ...options);
   at("module").value = options.some(({ value }) => value === before) ? before : "0";
 }
 
@@ -230,12 +260,14 @@ function listenToLabels() {
   at("look").value = memory.get("look") || "price";
   for (const id of ["stock", "look", "dpi"]) at(id).addEventListener("change", changeStock);
   at("own").addEventListener("input", () => { document.made = makeLabels(); });
-  for (const id of ["first", "module", "units"]) at(id).addEventListener("input", () => { document.made = makeLabels(); });
+  for (const id of ["first", "module", "units"])
+    at(id).addEventListener("input", () => { document.made = makeLabels(); });
   at("back").addEventListener("click", () => { shop.page--; showSheet(); });
   at("next").addEventListener("click", () => { shop.page++; showSheet(); });
   for (const zoom of ["fit", "real"]) at(`zoom-${zoom}`).addEventListener("click", () => setZoom(zoom));
   at("paper").addEventListener("click", ({ target }) => takeFirst(target.dataset.cell));
-  for (const [id, saving] of Object.entries(SAVES)) at(id).addEventListener("click", () => { document.saved = saving(shop.made); });
+  for (const [id, saving] of Object.entries(SAVES))
+    at(id).addEventListener("click", () => { document.saved = saving(shop.made); });
   at("print").addEventListener("click", () => print());
   addEventListener("beforeprint", preparePrint);
   addEventListener("afterprint", () => at("printed").replaceChildren());

@@ -1,3 +1,4 @@
+// @ts-check
 // Labels as the proved module lays them out (gs1_measure, gs1_plan and gs1_draw of gs1.h): dark boxes of whole dots,
 // and texts in rectangles.
 "use strict";
@@ -36,6 +37,7 @@ class Layout {
       longest = Math.max(longest, texts.reduce((sum, told) => sum + told.length, 0));
     }
     this.cell = cell;
+    /** @param {any} article */
     this.hasStrip = ({ price }) => look === "price" && price !== "";
     this.count = 0;
     this.fonts = [false, true].map((isBold) => fontOf([...signs], isBold));
@@ -99,7 +101,7 @@ class Layout {
     const { at } = this, place = at.measures + SIZES.measure * this.count;
     this.lend(article);
     const number = this.calls.gs1_c_measure(BigInt(at.look), BigInt(at.article), core.terms, BigInt(place));
-    this.count += number === 0;
+    if (number === 0) this.count++;
     return this.faultOf(number, article);
   }
 
@@ -150,7 +152,8 @@ class Layout {
     const { view, at: { drawing }, cell: { dots } } = this, length = (at) => view.getUint16(drawing + at, true) / dots;
     const nominal = view.getUint32(drawing + 4, true) / 64 / dots, high = length(14) - length(12), size = length(18);
     const warn = (key, rank, ...values) => warnings.push({ key, values, rank });
-    if (high < (this.hasStrip(article) ? STRIP_MM : nominal) - 0.1) warn("low", high / nominal, length1(high), length1(nominal));
+    if (high < (this.hasStrip(article) ? STRIP_MM : nominal) - 0.1)
+      warn("low", high / nominal, length1(high), length1(nominal));
     if (isOfCase(kind) && size < LOGISTIC_MM - 1e-6) warn("narrow", size, length3(size), length3(LOGISTIC_MM));
   }
 
@@ -176,6 +179,7 @@ const isOfCase = (kind) => ["gs1128", "itf14"].includes(kind);
 const modulesOf = (kind) => SHOP.modules[isOfCase(kind) ? "cases" : "retail"];
 
 // The dots that a module may have.
+/** @param {number[]} range @param {number} dots */
 function modulesAllowed([least, , most], dots) {
   const first = Math.ceil(least * dots - 1e-6);
   return Array.from({ length: Math.max(0, Math.floor(most * dots + 1e-6) - first + 1) }, (_, i) => first + i);
@@ -187,12 +191,15 @@ function neededFor(kind, { quiets, modules }, module, aside) {
 }
 
 function tooWide(kind, symbol, cell) {
-  const finest = Math.max(...Object.keys(DOTS_IN_MM)), aside = cell.aside / cell.dots;
+  const finest = Math.max(...Object.keys(DOTS_IN_MM).map(Number)), aside = cell.aside / cell.dots;
   const leastOf = (dots) => modulesAllowed(modulesOf(kind), dots)[0] / dots;
   const [module, least] = [cell.dots, DOTS_IN_MM[finest]].map(leastOf);
-  const wide = Math.ceil(neededFor(kind, symbol, module, aside)), stocks = Object.entries(STOCKS).map(([name, text]) => ({ name, ...stockOf(text) }))
-    .filter((stock) => Math.max(wide, neededFor(kind, symbol, module, stock.aside)) <= stock.width).sort((a, b) => a.width - b.width || (a.name < b.name ? -1 : 1));
+  const wide = Math.ceil(neededFor(kind, symbol, module, aside)),
+    stocks = Object.entries(STOCKS).map(([name, text]) => ({ name, ...stockOf(text) }))
+      .filter((stock) => Math.max(wide, neededFor(kind, symbol, module, stock.aside)) <= stock.width)
+      .sort((a, b) => a.width - b.width || (a.name < b.name ? -1 : 1));
   const named = stocks.length ? ` (${stocks.slice(0, 3).map(({ name }) => name).join(", ")})` : "";
+  /** @type {Told[]} */
   const ways = [{ key: "wider", values: [wide, named] }];
   if (neededFor(kind, symbol, least, aside) <= cell.width / cell.dots) ways.push({ key: "finer", values: [finest] });
   if (kind === "gs1128") ways.push({ key: "fewer" });

@@ -1,3 +1,4 @@
+// @ts-check
 // The list of the task "labels": its file, the question that it asks, what a person should know of it, and its
 // corrections.
 "use strict";
@@ -9,11 +10,13 @@
  */
 
 // The columns that a person may correct, and how many faults and values of a column are shown.
-const COLUMNS = ["gtin", "gs1", "name", "price", "line", ...BESIDE, "copies", "kind"], MOST_FAULTS_SHOWN = 40, MOST_SAMPLES = 3;
+const COLUMNS = ["gtin", "gs1", "name", "price", "line", ...BESIDE, "copies", "kind"], MOST_FAULTS_SHOWN = 40,
+  MOST_SAMPLES = 3;
 const MOST_NAMED = 12;
 
 // What was answered, and about a list with which first line; the file that is open, with its bytes and its first and
 // last line; the question on show; and whether the list was corrected here.
+/** @type {any} */
 const asked = { columns: {}, isFree: false, about: "", file: null, ends: [], question: null, isMended: false };
 
 // A list that has the first or the last line of the file is that file's, even if a person corrected it.
@@ -29,15 +32,17 @@ function listRead() {
   if (!list.text.trim()) return { articles: [], columns: null, notes: [], question: null };
   if (file?.question) return { articles: [], columns: null, notes, question: encodingQuestion(file) };
   try {
-    const table = tableOf(list, asked, MOST_LINES), units = at("units").value.split(",").filter(Boolean), { question, look } = table;
-    if (units.length && !table.places.content && !question) throw look.question("content", [], faultAt(1, "noContents"));
+    const table = tableOf(list, asked, MOST_LINES), units = at("units").value.split(",").filter(Boolean),
+      { question, look } = table;
+    if (units.length && !table.places.content && !question)
+      throw look.question("content", [], faultAt(1, "noContents"));
     const articles = articlesOf(table, { ...asked, units });
     const asks = question && columnQuestion({ ...question, meaning: "price" }, look);
     return asks ? { articles: [], columns: table, notes, question: asks }
       : { articles, columns: table, notes: [...notes, ...notesOfTable(table, articles, units)], question: null };
   } catch (error) {
     if (!(error instanceof Faults)) throw error;
-    const { look, question, faults } = error, columns = look && { look, places: {} };
+    const { look, question, faults } = /** @type {any} */ (error), columns = look && { look, places: {} };
     if (question) return { articles: [], columns, notes,
       question: columnQuestion({ ...question, ...faults[0] }, look) };
     return { articles: faults.map((it) => ({ ...it, typed: "", name: "" })), columns, notes, question: null };
@@ -47,7 +52,8 @@ function listRead() {
 // What a person should know of how a list was read.
 function notesOfTable({ titled, unused, passed, places, look }, articles, units) {
   const unpriced = places.price ? articles.filter(({ fault, price }) => !fault && !price).map(({ line }) => line) : [];
-  const unmeasured = units.length ? articles.filter(({ fault, price, fields }) => !fault && price && !fields[1]).map(({ line }) => line) : [];
+  const unmeasured = units.length ? articles.filter(({ fault, price, fields }) => !fault && price && !fields[1])
+    .map(({ line }) => line) : [];
   const named = unused.filter(({ values: [name] }) => !units.length || name !== look.nameOf(places.content[0]));
   return [...(titled ? [{ key: "tookLine", values: [titled] }] : []),
     ...(named.length ? [{ key: "unused", values: [{ list: named }] }] : []),
@@ -142,8 +148,8 @@ function showColumns(found) {
   const { look, places } = found ?? { places: {} }, wide = look?.wide ?? 0, nameOf = (place) => columnName(look, place);
   at("columns").hidden = !wide;
   for (const meaning of COLUMNS) {
-    const options = Array.from({ length: wide }, (_, place) => new Option(nameOf(place), place));
-    at(`column-${meaning}`).replaceChildren(new Option(t("none"), -1), ...options);
+    const options = Array.from({ length: wide }, (_, place) => new Option(nameOf(place), `${place}`));
+    at(`column-${meaning}`).replaceChildren(new Option(t("none"), "-1"), ...options);
     at(`column-${meaning}`).value = places[meaning]?.[0] ?? -1;
   }
   at("columns-told").textContent = COLUMNS.filter((meaning) => places[meaning]?.length)
@@ -213,7 +219,8 @@ function mend(one) {
   makeAgain();
 }
 
-// Puts all numbers right that are clear, as `noriladle check --fix` does. From the end, since what is before a line keeps its place.
+// Puts all numbers right that are clear, as `noriladle check --fix` does. From the end, since what is before a line
+// keeps its place.
 function mendAll() {
   const clear = shop.made.faults.filter(isClear)
     .map(({ line, from = line, typed, fault }) => ({ from, typed, fix: fault.fixes[0] }));
@@ -255,7 +262,7 @@ async function openFile(file, place) {
 
 // What is wrong with a file.
 function fileFault(name, error) {
-  const [{ line, fault } = {}] = error.faults ?? [];
+  const [{ line, fault } = /** @type {any} */ ({})] = error.faults ?? [];
   return fault ? `${name}: ${line > 1 ? `${t("line", line)}: ` : ""}${remedyText(fault)}` : t("noFile", name);
 }
 

@@ -1,3 +1,4 @@
+// @ts-check
 // Reads lists as people save and paste them, plain lines or the CSV of any spreadsheet, as records with line numbers.
 // It reads every list as python/noriladle/_lists.py does.
 "use strict";
@@ -59,7 +60,8 @@ function sheetsOf({ text, isSheet, faults }, most) {
   const told = isSheet ? null : text.match(/^sep=([^\n])[ \t]*(\r\n|\n|\r|$)/u);
   const signs = isSheet ? [] : ["\n", "\r", ...DELIMITERS.slice(1), ...(told ? [told[1]] : [])];
   if (signs.some((sign) => countOf(text, sign) > MOST_TEXT_CELLS)) throw new Faults(faultAt(1, "sheetLarge"));
-  const found = isSheet ? [sheetOf(text, "\t", 1, most, true)] : told ? [sheetOf(text.slice(told[0].length), told[1], 2, most)]
+  const found = isSheet ? [sheetOf(text, "\t", 1, most, true)] : told
+    ? [sheetOf(text.slice(told[0].length), told[1], 2, most)]
     : DELIMITERS.filter((it) => it === WHOLE_LINES || text.includes(it)).map((it) => sheetOf(text, it, 1, most));
   const sheets = found.filter((sheet) => sheet.records.length + sheet.faults.length <= most);
   if (!sheets.length) throw new Faults(faultAt(1, "manyLines", most));

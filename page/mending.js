@@ -47,8 +47,8 @@ const isNumber = (digits) => /^[0-9]+$/.test(digits) && GTIN_LENGTHS.includes(di
   && digits.slice(-1) === core.digit(digits.slice(0, -1));
 
 /**
- * What to write for a text that is no number: what it clearly stands for, or each number that it may be; or nothing. What is
- * written of a number is the text that is read as it, or nothing if none is.
+ * What to write for a text that is no number: what it clearly stands for, or each number that it may be; or nothing.
+ * What is written of a number is the text that is read as it, or nothing if none is.
  * @param {string} text
  * @param {(number: string) => string} written
  * @returns {Advice | null}
@@ -62,7 +62,8 @@ function numberAdvice(text, written) {
   if (plain && (!/^[0-9]+$/.test(digits) || digits === number)) {
     return clear(/^[0-9]{9}[Xx]$/.test(digits) ? "isbn" : "plainly", plain);
   }
-  const readings = readingsOf(digits).map(({ name, number: it }) => ({ name, number: written(it) })).filter((it) => it.number);
+  const readings = readingsOf(digits).map(({ name, number: it }) => ({ name, number: written(it) }))
+    .filter((it) => it.number);
   return readings.length ? { ...readingsTold(readings), fixes: readings.map((it) => it.number), isClear: !!number }
     : null;
 }

@@ -1,4 +1,5 @@
-// Says at the foot of a served page that the browser does not keep it, which needs a certificate that the device trusts.
+// @ts-check
+// Says at the foot of a served page that the browser does not keep it: that needs a certificate that the device trusts.
 "use strict";
 
 /** @returns {void} */

@@ -1,18 +1,21 @@
+// @ts-check
 // The start of the page: its module, its language and its tasks.
 "use strict";
 
-function stop(problem) {
+function refuse(problem) {
   at("problem").textContent = problem;
   at("problem").hidden = false;
   document.querySelector("main").hidden = true;
 }
 
 // The modules of page/build by the bits of their addresses. The proved one comes first.
-const modules = () => ({ 64: typeof GS1_WASM === "string" && GS1_WASM, 32: typeof GS1_WASM_32 === "string" && GS1_WASM_32 });
+const modules =
+  () => ({ 64: typeof GS1_WASM === "string" && GS1_WASM, 32: typeof GS1_WASM_32 === "string" && GS1_WASM_32 });
 
 // On a telephone the camera comes first.
 const isPhone = () => matchMedia("(max-width: 760px) and (pointer: coarse)").matches;
-const firstTask = () => TASKS.includes(location.hash.slice(1)) ? location.hash.slice(1) : memory.get("task") ?? (isPhone() ? "read" : "labels");
+const firstTask = () => TASKS.includes(location.hash.slice(1)) ? location.hash.slice(1)
+  : memory.get("task") ?? (isPhone() ? "read" : "labels");
 
 function changeLanguage(chosen) {
   speak(chosen);
@@ -57,11 +60,13 @@ async function start() {
   fillLanguages(changeLanguage);
   speak(memory.get("language") ?? navigator.language.slice(0, 2));
   const built = modules();
-  if (!built[64]) return stop(t("noModule"));
+  if (!built[64]) return refuse(t("noModule"));
   const bits = [64, 32].find((width) => built[width] && Gs1.runs(width));
-  if (!bits || typeof CompressionStream !== "function" || typeof OffscreenCanvas !== "function" || !Array.prototype.toSorted) return stop(t("oldBrowser"));
+  if (!bits || typeof CompressionStream !== "function" || typeof OffscreenCanvas !== "function"
+    || !Array.prototype.toSorted) return refuse(t("oldBrowser"));
   gs1 = await Gs1.load(built[bits], bits);
-  for (const listen of [listenToTabs, listenToList, listenToScanned, listenToLabels, listenToCheck, listenToRead, listenToCamera]) listen();
+  for (const listen of [listenToTabs, listenToList, listenToScanned, listenToLabels, listenToCheck, listenToRead,
+    listenToCamera]) listen();
   for (const form of document.forms) form.addEventListener("submit", (event) => event.preventDefault());
   for (const field of document.querySelectorAll("[data-year]")) {
     field.value = core.year;
@@ -75,4 +80,4 @@ async function start() {
   await document.made;
 }
 
-document.started = start().catch((error) => stop(t("noStart", error)));
+document.started = start().catch((error) => refuse(t("noStart", error)));

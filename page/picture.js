@@ -1,3 +1,4 @@
+// @ts-check
 // Pictures: their grey values.
 "use strict";
 

@@ -35,7 +35,8 @@ const anyOfEach = (groups) => Object.entries(groups).map(([name, patterns]) => (
 const PRICE_WORDS = { ignored: anyOf(PRICES.ignored), price: anyOf(PRICES.price), own: anyOf(PRICES.own),
   gross: anyOf(PRICES.gross), recommended: anyOf(PRICES.recommended), taxes: anyOf(PRICES.taxes),
     with: anyOf(PRICES.with),
-  without: anyOf(PRICES.without), cents: anyOf(PRICES.cents), carton: anyOf(PRICES.reasons.carton), deposit: anyOf(PRICES.reasons.deposit),
+  without: anyOf(PRICES.without), cents: anyOf(PRICES.cents), carton: anyOf(PRICES.reasons.carton),
+  deposit: anyOf(PRICES.reasons.deposit),
   total: anyOf(PRICES.reasons.total) };
 const PRICE_REASONS = anyOfEach(PRICES.reasons), PRICE_MARKS = anyOfEach(PRICES.marks);
 const SURE_WORDS = anyOf([...PRICES.price, ...PRICES.own, ...PRICES.gross, ...PRICES.recommended, ...PRICES.taxes,
@@ -131,10 +132,11 @@ function taxOf(text) {
 }
 
 /** @param {string} heading */
-const headingText = (heading) => folded(Array.from(heading).slice(0, MOST_HEADING).join("")).replace(PRICE_WORDS.ignored, "");
+const headingText = (heading) => folded(Array.from(heading).slice(0, MOST_HEADING).join(""))
+  .replace(PRICE_WORDS.ignored, "");
 
 /**
- * Why amounts below a heading are not prices of the shelf, also if it does not speak of prices; nothing if it does not say.
+ * Why amounts below a heading are not prices of the shelf, also if it does not speak of prices; or nothing.
  * @param {string} heading
  */
 function reasonIn(heading) {
@@ -149,12 +151,13 @@ function reasonIn(heading) {
 const hasTax = (text) => taxOf(text).isTaxed || has(PRICE_WORDS.gross, text);
 
 /**
- * Whether a heading may be that of prices to which the tax was added: it speaks of tax or a total, and of no other price.
+ * Whether a heading may be that of prices with the tax added: it speaks of tax or a total, and of no other price.
  * @param {string} heading
  */
 function mayAddTax(heading) {
   const text = headingText(heading), reason = reasonIn(heading);
-  const saysSo = reason ? ["net", "total"].includes(reason) : has(PRICE_WORDS.with, text) || has(PRICE_WORDS.gross, text);
+  const saysSo = reason ? ["net", "total"].includes(reason)
+    : has(PRICE_WORDS.with, text) || has(PRICE_WORDS.gross, text);
   return saysSo && !has(PRICE_WORDS.recommended, text);
 }
 

@@ -1,7 +1,7 @@
 // @ts-check
-// Finds what a list says of its prices outside their heading: in titles, between its lines and in other columns, such as
-// "all prices without tax", a column of units that says "carton", or sums of price and tax. shop/README.md has the rule. As
-// python/noriladle/_remarks.py.
+// Finds what a list says of its prices outside their heading: in titles, between its lines and in other columns, such
+// as "all prices without tax", a column of units that says "carton", or sums of price and tax. shop/README.md has the
+// rule. As python/noriladle/_remarks.py.
 "use strict";
 
 /**
@@ -19,8 +19,8 @@ const FLAGS = new Set([...PRICES.remarks.no, ...PRICES.remarks.yes]);
 const NEAR = 0.02, TAXED = 1.3;
 
 /**
- * The first remark on the prices of a column: in the titles, in the lines without an article, or in the columns that are
- * not used.
+ * The first remark on the prices of a column: in the titles, in the lines without an article, or in the columns that
+ * are not used.
  * @param {number} price
  * @param {string[]} headings
  * @param {{ titles: ListRecord[], passed: ListRecord[], records: ListRecord[] }} lines
@@ -53,7 +53,8 @@ function remarksInLine(price, headings, record) {
   const isOther = (/** @type {string} */ text) => PRICES.remarks.reasons.includes(reasonOf(text));
   const { line } = record, cells = record.cells.map(oneBlank);
   if (cells.length === headings.length && cells.every((cell, place) => cell === headings[place])) return [];
-  return cells.filter((cell, place) => cell && (isOther(cell) || place === price && isOther(`${headings[price]} ${cell}`)))
+  return cells.filter(
+    (cell, place) => cell && (isOther(cell) || place === price && isOther(`${headings[price]} ${cell}`)))
     .map((cell) => ({ line, cell }));
 }
 
@@ -66,7 +67,8 @@ function remarksInLine(price, headings, record) {
  * @returns {Remark[]}
  */
 function remarksInColumn(place, heading, records) {
-  const words = folded(heading), filled = records.map(({ line, cells }) => ({ line, cell: oneBlank(cells[place] ?? "") }))
+  const words = folded(heading),
+    filled = records.map(({ line, cells }) => ({ line, cell: oneBlank(cells[place] ?? "") }))
     .filter(({ cell }) => cell);
   const isSize = has(REMARKS.sizes, words), isCurrency = has(REMARKS.currencies, words);
   const found = has(REMARKS.units, words) ? filled.filter(({ cell }) => isOtherUnit(cell, isSize))

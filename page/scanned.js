@@ -1,4 +1,6 @@
-// Scans become labels: those of the articles in the list whose codes were read, in the order of the list. Without a list, the codes are the list.
+// @ts-check
+// Scans become labels: those of the articles in the list whose codes were read, in the order of the list. Without a
+// list, the codes are the list.
 "use strict";
 
 /** @typedef {{ ai: string, value: string }} Pair */
@@ -12,7 +14,8 @@ const gtinIn = (pairs) => pairs?.find(({ ai }) => ai === "01")?.value;
 
 // Makes labels of what was read. What has no GTIN stays out, and is counted.
 function labelScanned() {
-  const symbols = pictures.flatMap(({ symbols: seen }) => seen).reverse(), listed = symbols.filter(({ pairs }) => gtinIn(pairs));
+  const symbols = pictures.flatMap(({ symbols: seen }) => seen).reverse(),
+    listed = symbols.filter(({ pairs }) => gtinIn(pairs));
   const read = new Map(listed.map(({ pairs, line }) => [gtinIn(pairs), shownOf(line).says]));
   if (at("list").value.trim()) wantedGtins = read;
   else {

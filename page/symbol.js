@@ -1,3 +1,4 @@
+// @ts-check
 // Symbols on labels: how wide they are, and the digits for people under them.
 "use strict";
 
@@ -10,7 +11,8 @@ const KIND_NAMES = { ean13: "EAN-13", upca: "UPC-A", ean8: "EAN-8", upce: "UPC-E
 // The symbols so far, by kind, year and text.
 const symbols = new Map();
 
-// The symbol of an article: the digits under it, its quiet zones, and how many modules it has with them; or why there is none.
+// The symbol of an article: the digits under it, its quiet zones, and how many modules it has with them; or why there
+// is none.
 function symbolOf({ kind, text }) {
   const key = `${kind} ${core.year} ${text}`;
   if (!symbols.has(key)) symbols.set(key, symbolIn(core.symbol(kind, text)));

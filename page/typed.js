@@ -1,8 +1,9 @@
-// Reads texts as people type and paste them: numbers, printed element strings, and what scanners send; and says what to do
-// about those that are refused. As python/noriladle/_texts.py and _advice.py. The npm package has this too.
+// @ts-check
+// Texts as people type and paste them: numbers, printed element strings, and what scanners send; and what to do about
+// those that are refused. As python/noriladle/_texts.py and _advice.py. The npm package has this too.
 "use strict";
 
-const BRACKETED = { "(": /\((\d{2,4})\)([^()]+)/g, "[": /\[(\d{2,4})\]([^\][]+)/g };
+const BRACKETED = { "(": /\(([0-9]{2,4})\)([^()]+)/g, "[": /\[([0-9]{2,4})\]([^\][]+)/g };
 const LINK = /^https?:\/\//i, ROUNDED = /^\p{Nd}([.,]\p{Nd}+)?E\+?\p{Nd}+$/iu;
 
 // White space as Python has it; and a cell without it at its ends.
@@ -29,72 +30,47 @@ function looksRight(cell) {
   return /^\p{Nd}{7,14}$/u.test(digits) || ROUNDED.test(digits) || LINK.test(text);
 }
 
-// A text of a column of element strings as it is read, since it needs no mark there; or nothing for the digits of a GTIN, which may be
-// elements too.
+// A text of a column of element strings as it is read, since it needs no mark there; or nothing for the digits of a
+// GTIN, which may be elements too.
 const inColumn = (text) => isElements(text) || text[0] === "]" ? text : isGtin(text) ? null : `^${text}`;
 
 const isGtin = (text) => /^[0-9]+$/.test(text) && !core.gtin(text).refused;
 
-// What a text says: the identifier that a scanner sent, and the elements; or the line of its error.
+// What a text says: the identifier that a scanner sent, the elements and their element string; or the line of its
+// error.
 function readText(typed) {
-  const text = stripped(typed);
-  if (text[0] in BRACKETED) {
-    const pairs = bracketedPairs(text);
-    return pairs ? printedRead(pairs) : { refused: "refused 5 UnknownAi" };
-  }
-  if (text[0] === "]" || LINK.test(text)) return scanned(text);
-  if (isElements(text)) return scanned(/^[\^\x1d]/.test(text) ? text : `^${text}`);
-  const digits = digitsOf(text);
-  if (/^0+$/.test(digits)) return { refused: "refused 40 Kind" };
-  // Eight digits that begin with 0 are a GTIN-8 or a UPC-E: the module refuses to guess.
-  if (/^0[0-9]{7}$/.test(digits)) return scanned(digits);
-  return saidBy(core.gtin(digits));
+  const { refused, identifier, elements, text } = core.typed(typed);
+  return refused ? { refused } : { identifier, elements, text };
 }
 
-const scanned = (text) => saidBy(core.scan(text));
-
-// What AIs with their values say: these elements, and no others that the same characters may be.
-function printedRead(pairs) {
-  let end = 0;
-  const starts = pairs.map(({ ai, value }) => {
-    end += ai.length + value.length + 1;
-    return end - ai.length - value.length - 1;
-  });
-  const said = scanned(`^${pairs.map(({ ai, value }) => ai + value).join("^")}`), place = said.refused && refusalOf(said.refused).place;
-  if (said.refused) {
-    return place === undefined || starts.includes(place) ? said : { refused: `refused 6 ValueLength ${Math.max(...starts.filter((at) => at < place))}` };
-  }
-  const wrong = pairs.findIndex(({ ai, value }, i) => said.elements[i].ai !== ai || said.elements[i].value !== value);
-  if (wrong < 0) return said;
-  return { refused: said.elements[wrong].ai === pairs[wrong].ai ? `refused 6 ValueLength ${starts[wrong]}` : `refused 5 UnknownAi ${starts[wrong]}` };
-}
-
-const saidBy = ({ refused, identifier, elements }) => refused ? { refused } : { identifier, elements };
-
-// The AIs of a text with parentheses or brackets around each, with their values; or nothing if there are parentheses
-// elsewhere too.
+// The AIs of a printed text that is refused, with their values; or nothing if there are parentheses or brackets
+// elsewhere.
 function bracketedPairs(text) {
-  const plain = text.replace(WHITE, ""), pattern = BRACKETED[text[0]];
-  return plain.replace(pattern, "") ? null : Array.from(plain.matchAll(pattern), ([, ai, value]) => ({ ai, value }));
+  const pattern = BRACKETED[text[0]],
+    pairs = Array.from(text.matchAll(pattern), ([, ai, value]) => ({ ai, value: printedValue(value) }));
+  return text.replace(pattern, "") || !pairs.every(({ value }) => value) ? null : pairs;
 }
 
-// The element string of a text with parentheses or brackets around each AI, or with ^ for the separator.
-const elementString = (text) => text[0] in BRACKETED
-  ? bracketedPairs(text).map(({ ai, value }) => ai + value).join("\x1d") : text.replaceAll("^", "\x1d");
+// A printed value without the blanks around it, and one of digits alone without those in it.
+function printedValue(value) {
+  const plain = value.replace(WHITE, "");
+  return /^[0-9]*$/.test(plain) ? plain : trimmed(value);
+}
 
 // ---- what to do about a text that is refused
 
-// What was asked of a call: the text, whether the call reads another one, whether it takes numbers with an identifier too, and
-// whether its separator is byte 29 alone.
+// What was asked of a call: the text, whether the call reads another one, whether it takes numbers with an identifier
+// too, and whether its separator is byte 29 alone.
 /** @typedef {{ text: string, reads: (text: string) => boolean, call: string, isString?: boolean }} Asked */
 
-// What is said of another number of digits behind an identifier; the identifiers of Digital Links; what is said of an element that
-// no separator ends.
+// What is said of another number of digits behind an identifier; the identifiers of Digital Links; what is said of an
+// element that no separator ends.
 const LENGTH_KEYS = { "]E0": "lengthEan", "]E4": "lengthEan8", "]I1": "lengthItf" }, LINKS = ["]Q1", "]d1"];
 const ALONE_KEYS = { 5: "noAi", 6: "valueLength", 7: "valueCharacter", 10: "valueLength" };
 
 // What to do about a refused text, and each text that may be put in its place: this call reads it.
-const remedyOf = (typed, refused) => remedyOfTyped(refusalOf(refused), { text: stripped(typed), reads: (text) => !readText(text).refused, call: "readText" });
+const remedyOf = (typed, refused) => remedyOfTyped(refusalOf(refused),
+  { text: stripped(typed), reads: (text) => !readText(text).refused, call: "readText" });
 
 function remedyOfTyped(refusal, asked) {
   // Others are of the label, the year or the machine.
@@ -128,35 +104,35 @@ function remedyOfLink({ number, place }) {
 function remedyOfString({ number, place }, asked, string, separator) {
   const text = /^[\^\x1d]/.test(string) ? string.slice(1) : string;
   if (place === undefined || number < 5) {
-    return number === 11 && asked.call !== "readText" ? { key: "fewerElements" } : usualRemedy(number, text, place, separator);
+    return number === 11 && asked.call !== "readText" ? { key: "fewerElements" }
+      : usualRemedy(number, text, place, separator);
   }
   const rest = behindPlace(text, place);
-  return { key: "at", values: [Array.from(rest).slice(0, 20).join("").replaceAll("\x1d", "^"), usualRemedy(number, rest, 0, separator)] };
+  return { key: "at",
+    values: [Array.from(rest).slice(0, 20).join("").replaceAll("\x1d", "^"), usualRemedy(number, rest, 0, separator)] };
 }
 
 // Of an element string as it is printed, with the element that it is about.
 function remedyOfPrinted({ number, place }, asked) {
   const { text } = asked, pairs = bracketedPairs(text), close = text[0] === "(" ? ")" : "]";
   if (!pairs) {
-    const meant = meantNumber(text), ways = [meant && writtenFor(asked)(meant), inBrackets(text)];
-    const fixes = ways.filter((it) => it && asked.reads(it)).slice(0, 1);
-    return { key: text[0] === "(" ? "parentheses" : "brackets", fixes, isClear: !!meant && fixes.length > 0 };
+    const meant = meantNumber(text), right = meant && writtenFor(asked)(meant);
+    return { key: text[0] === "(" ? "parentheses" : "brackets", fixes: right ? [right] : [], isClear: !!right };
   }
   const shown = pairs.map(({ ai, value }) => text[0] + ai + close + value);
   let at = 0;
   for (const [i, { ai, value }] of pairs.entries()) {
     if (at === place) {
-      const right = paddedGtin(ai, value), said = text[0] + ai + close + right, whole = shown.map((it, j) => j === i ? said : it).join("");
+      const right = paddedGtin(ai, value), said = text[0] + ai + close + right,
+        whole = shown.map((it, j) => j === i ? said : it).join("");
       const fixes = right && asked.reads(whole) ? [whole] : [];
-      return { key: "at", values: [shown[i], right ? { key: "padded", values: [said] } : remedyAlone(number, ai)], fixes };
+      return { key: "at", values: [shown[i], right ? { key: "padded", values: [said] } : remedyAlone(number, ai)],
+        fixes };
     }
     at += ai.length + value.length + 1;
   }
   return usualRemedy(number, text, undefined, "^");
 }
-
-// An element string as it is printed, with brackets around each AI in parentheses.
-const inBrackets = (text) => text.replace(/\(([0-9]{2,4})\)/g, (it, ai) => AIS.has(ai) ? `[${ai}]` : it);
 
 // A GTIN with the zeros that its AI needs, if it lacks them.
 function paddedGtin(ai, value) {
@@ -179,7 +155,8 @@ function remedyOfDigits(refusal, asked) {
   if (advice) return advice;
   if (ROUNDED.test(digits)) return { key: "rounded" };
   const string = `^${digits}`;
-  if (/^[0-9]{15,}$/.test(digits) && asked.reads(string)) return { key: "manyDigits", values: [string], fixes: [string] };
+  if (/^[0-9]{15,}$/.test(digits) && asked.reads(string))
+    return { key: "manyDigits", values: [string], fixes: [string] };
   return number === 40 ? { key: 1 } : usualRemedy(number, asked.call === "readGtin" ? text : digits, place, "^");
 }
 
@@ -190,7 +167,8 @@ function remedyOfEither({ text, reads }, gtin) {
 }
 
 const remedyOfColumn = (text) =>
-  ({ ...remedyOfEither({ text, reads: (it) => !readText(it).refused }, `(01)${gtinOf(core.gtin(text).elements)}`), refused: "refused 40 Kind" });
+  ({ ...remedyOfEither({ text, reads: (it) => !readText(it).refused }, `(01)${gtinOf(core.gtin(text).elements)}`),
+    refused: "refused 40 Kind" });
 
 // What is said of the number of an error, with the sign or the separator that it is about.
 function usualRemedy(number, text, place, separator) {
@@ -198,19 +176,23 @@ function usualRemedy(number, text, place, separator) {
     const [sign] = behindPlace(text, place ?? 0);
     return sign ? { key: 2, values: [sign] } : { key: "noDigit" };
   }
-  if (number === 9) return remedyAlone(number, [2, 3, 4].map((count) => text.slice(0, count)).find((ai) => AIS.has(ai)) ?? "17");
+  if (number === 9)
+    return remedyAlone(number, [2, 3, 4].map((count) => text.slice(0, count)).find((ai) => AIS.has(ai)) ?? "17");
   return [5, 7, 10].includes(number) ? { key: number, values: [separator] } : { key: number };
 }
 
 // What is said of an element that stands by itself. Days of AIs of two digits may be 00.
-const remedyAlone = (number, ai) => ({ key: number === 9 && ai.length !== 2 ? "dayAndTime" : ALONE_KEYS[number] ?? number });
+const remedyAlone = (number, ai) =>
+  ({ key: number === 9 && ai.length !== 2 ? "dayAndTime" : ALONE_KEYS[number] ?? number });
 
 // A text from a place on, which counts bytes.
-const behindPlace = (text, place) => new TextDecoder("utf-8", { ignoreBOM: true }).decode(new TextEncoder().encode(text).subarray(place));
+const behindPlace = (text, place) =>
+  new TextDecoder("utf-8", { ignoreBOM: true }).decode(new TextEncoder().encode(text).subarray(place));
 
 // How the call takes a number: as it is, or with the identifier of an EAN-8 if it may be a UPC-E too.
 const writtenFor = (asked, identifier = "") => (number) =>
-  [identifier + number, ...(!identifier && ["readText", "readScan"].includes(asked.call) ? [`]E4${number}`] : [])].find(asked.reads) ?? "";
+  [identifier + number, ...(!identifier && ["readText", "readScan"].includes(asked.call) ? [`]E4${number}`] : [])]
+    .find(asked.reads) ?? "";
 
 // What to write for a text that is clear, but written with other signs than this call takes.
 function writtenOtherwise(asked) {
@@ -226,8 +208,6 @@ function waysOf(asked) {
   if (!asked.isString && asked.call !== "readScan") return [text, behind, ...(number ? [number] : [])];
   const ways = asked.isString ? [text, behind] : [text];
   if (!isElements(behind)) return number && !asked.isString ? [...ways, number] : ways;
-  const bracketed = behind[0] === "(" ? inBrackets(behind) : behind;
-  if (bracketed[0] in BRACKETED && !bracketedPairs(bracketed)) return ways;
-  const string = elementString(bracketed).replace(/^\x1d+|\x1d+$/g, "");
-  return [...ways, asked.isString ? string : `^${string}`.replaceAll("\x1d", "^")];
+  const string = readText(behind).elements?.map(({ ai, value }) => ai + value).join("\x1d");
+  return string ? [...ways, asked.isString ? string : `^${string}`.replaceAll("\x1d", "^")] : ways;
 }

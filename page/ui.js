@@ -1,6 +1,8 @@
+// @ts-check
 // What all tasks of the page share: its elements, its language, its tabs, and saving and copying.
 "use strict";
 
+/** @type {(id: string) => any} */
 const at = (id) => document.getElementById(id);
 
 // ---- language
@@ -11,7 +13,11 @@ let language = "en";
 // What the page remembers. A private window may remember nothing, and what is too long is forgotten whole.
 const memory = {
   get(key) { try { return localStorage.getItem(`noriladle.${key}`); } catch { return null; } },
-  set(key, value) { try { localStorage.removeItem(`noriladle.${key}`), localStorage.setItem(`noriladle.${key}`, value); } catch { /* It is forgotten. */ } },
+  set(key, value) {
+    try {
+      localStorage.removeItem(`noriladle.${key}`), localStorage.setItem(`noriladle.${key}`, value);
+    } catch { /* It is forgotten. */ }
+  },
 };
 
 const filledText = (text, values) => text.replace(/\{(\d)\}/g, (_, i) => values[i] ?? "");
@@ -30,7 +36,8 @@ const many = (key, count, ...values) => t(count === 1 ? `${key}1` : key, countTe
 // A button for each language.
 function fillLanguages(changed) {
   at("languages").replaceChildren(...LANGUAGES.map((name) =>
-    make("button", { type: "button", lang: name, "aria-label": TEXTS[name].page.name, onclick: () => { memory.set("language", name); changed(name); } }, name.toUpperCase())));
+    make("button", { type: "button", lang: name, "aria-label": TEXTS[name].page.name,
+      onclick: () => { memory.set("language", name); changed(name); } }, name.toUpperCase())));
 }
 
 // Puts the texts of a language into the elements with `data-t` and its like.
@@ -39,7 +46,8 @@ function speak(chosen) {
   document.documentElement.lang = language;
   document.title = t("title");
   for (const made of document.querySelectorAll("[data-t]")) made.textContent = t(made.dataset.t);
-  for (const made of document.querySelectorAll("[data-t-label]")) made.setAttribute("aria-label", t(made.dataset.tLabel));
+  for (const made of document.querySelectorAll("[data-t-label]"))
+    made.setAttribute("aria-label", t(made.dataset.tLabel));
   for (const made of document.querySelectorAll("[data-t-hint]")) made.placeholder = t(made.dataset.tHint);
   for (const button of at("languages").children) button.setAttribute("aria-pressed", button.lang === language);
 }
@@ -58,10 +66,12 @@ function make(name, attributes = {}, ...holds) {
 }
 
 // The parts of a message, each with its class, without empty ones.
-const toldParts = (...parts) => parts.filter(([text]) => text).flatMap(([text, name], i) => [i ? " · " : "", make("span", { class: name }, text)]);
+const toldParts = (...parts) =>
+  parts.filter(([text]) => text).flatMap(([text, name], i) => [i ? " · " : "", make("span", { class: name }, text)]);
 
 function icon(name) {
-  const svg = document.createElementNS("http://www.w3.org/2000/svg", "svg"), use = document.createElementNS(svg.namespaceURI, "use");
+  const svg = document.createElementNS("http://www.w3.org/2000/svg", "svg"),
+    use = document.createElementNS(svg.namespaceURI, "use");
   use.setAttribute("href", `#i-${name}`);
   svg.setAttribute("class", "icon");
   svg.setAttribute("aria-hidden", "true");
@@ -91,7 +101,8 @@ function listenToTabs() {
   for (const one of TASKS) at(`tab-${one}`).addEventListener("click", () => showTask(one));
   at("tabs").addEventListener("keydown", (event) => {
     const here = TASKS.findIndex((one) => at(`tab-${one}`).tabIndex === 0), last = TASKS.length - 1;
-    const next = { ArrowRight: here === last ? 0 : here + 1, ArrowLeft: here ? here - 1 : last, Home: 0, End: last }[event.key];
+    const next = {
+      ArrowRight: here === last ? 0 : here + 1, ArrowLeft: here ? here - 1 : last, Home: 0, End: last }[event.key];
     if (next === undefined) return;
     event.preventDefault();
     showTask(TASKS[next]);
@@ -138,9 +149,11 @@ function note(text) {
   noted = setTimeout(() => { at("note").textContent = ""; }, 4000);
 }
 
-// Rows as CSV (RFC 4180), with the mark by which spreadsheets recognize UTF-8. A cell that would be a formula gets an apostrophe.
+// Rows as CSV (RFC 4180), with the mark by which spreadsheets recognize UTF-8. A cell that would be a formula gets an
+// apostrophe.
 function csvOf(rows) {
-  const text = (word) => /^[=+\-@\t\r]/.test(word) ? `'${word}` : word, quoted = (word) => /[",;\r\n]/.test(word) ? `"${word.replaceAll('"', '""')}"` : word;
+  const text = (word) => /^[=+\-@\t\r]/.test(word) ? `'${word}` : word,
+    quoted = (word) => /[",;\r\n]/.test(word) ? `"${word.replaceAll('"', '""')}"` : word;
   return `\ufeff${rows.map((row) => `${row.map((cell) => quoted(text(String(cell ?? "")))).join(",")}\r\n`).join("")}`;
 }
 
@@ -149,7 +162,8 @@ function csvOf(rows) {
 // The name of an element; weights, amounts and the like have that of their family.
 function titleOf(ai) {
   const titles = TEXTS[language].elements;
-  return titles[ai] ?? titles[ai.slice(0, 3)] ?? (/^9[1-9]$/.test(ai) ? titles["91-99"] : AIS.get(ai)?.title || t("element"));
+  return titles[ai] ?? titles[ai.slice(0, 3)]
+    ?? (/^9[1-9]$/.test(ai) ? titles["91-99"] : AIS.get(ai)?.title || t("element"));
 }
 
 // The elements with their titles and meanings.
@@ -157,7 +171,8 @@ const told = (pairs) => pairs.map((pair) => ({ ...pair, title: titleOf(pair.ai),
 
 function elementsTable(elements) {
   const head = ["thAi", "thTitle", "thValue", "thMeaning"].map((key) => make("th", { scope: "col" }, t(key)));
-  const rows = elements.map(({ ai, title, value, meaning }) => make("tr", {}, make("td", { class: "mono" }, ai), make("th", { scope: "row" }, title), make("td", { class: "mono value" }, value), make("td", {}, meaning)));
+  const rows = elements.map(({ ai, title, value, meaning }) => make("tr", {}, make("td", { class: "mono" }, ai),
+    make("th", { scope: "row" }, title), make("td", { class: "mono value" }, value), make("td", {}, meaning)));
   return make("table", { class: "elements" }, make("thead", {}, make("tr", {}, ...head)), make("tbody", {}, ...rows));
 }
 
@@ -174,7 +189,9 @@ function valueText(value) {
   if (value.list) return value.list.map(faultText).join(value.between ?? ", ");
   if (typeof value === "number") return countText(value);
   if (typeof value === "string") return value;
-  return value.number === undefined ? faultText(value) : value.number.toLocaleString(language, { minimumFractionDigits: value.places, maximumFractionDigits: value.places, useGrouping: false });
+  return value.number === undefined ? faultText(value)
+    : value.number.toLocaleString(language, { minimumFractionDigits: value.places, maximumFractionDigits: value.places,
+      useGrouping: false });
 }
 
 // A text as a sentence.

@@ -1,16 +1,20 @@
+// @ts-check
 // What the values of Application Identifiers say: numbers, units, codes and places. As python/noriladle/_values.py.
 "use strict";
 
 // Of AIs from one to another each digit lies between those of the two.
 function aisFrom(least, greatest) {
-  return Array.from(least).reduce((begun, low, i) => begun.flatMap((start) => Array.from({ length: greatest[i] - low + 1 }, (_, k) => start + (Number(low) + k))), [""]);
+  return Array.from(least).reduce((begun, low, i) => begun.flatMap(
+    (start) => Array.from({ length: greatest[i] - low + 1 }, (_, k) => start + (Number(low) + k))), [""]);
 }
 
 // The table, by its AIs.
-const AIS = new Map(AI_ROWS.flatMap(([least, greatest, isPredefined, title]) => aisFrom(least, greatest).map((ai) => [ai, { isPredefined: isPredefined === 1, title }])));
+const AIS = new Map(
+  AI_ROWS.flatMap(([least, greatest, title]) => aisFrom(least, greatest).map((ai) => [ai, { title }])));
 
 const lettersOf = (packed) => new Map(packed.split(" ").map((code) => [code.slice(0, 3), code.slice(3)]));
-const COUNTRY_LETTERS = lettersOf(COUNTRIES), CURRENCY_LETTERS = lettersOf(CURRENCIES), KNOWN_COUNTRIES = new Set(COUNTRY_LETTERS.values());
+const COUNTRY_LETTERS = lettersOf(COUNTRIES), CURRENCY_LETTERS = lettersOf(CURRENCIES),
+  KNOWN_COUNTRIES = new Set(COUNTRY_LETTERS.values());
 
 const isOf = (ai, ...families) => ai.length === 4 && families.includes(ai.slice(0, 3));
 const isMeasure = (ai) => /^3[1-6]\d\d$/.test(ai);
@@ -18,7 +22,8 @@ const isTemperature = (ai) => isOf(ai, "433");
 
 // Digits as a number with this many decimals, as an exact text.
 function scaled(digits, decimals) {
-  const padded = digits.padStart(decimals + 1, "0"), whole = padded.slice(0, padded.length - decimals).replace(/^0+(?=\d)/, "");
+  const padded = digits.padStart(decimals + 1, "0"),
+    whole = padded.slice(0, padded.length - decimals).replace(/^0+(?=\d)/, "");
   return decimals ? `${whole}.${padded.slice(-decimals)}` : whole;
 }
 
@@ -26,7 +31,8 @@ function scaled(digits, decimals) {
 function numberOf(ai, value) {
   if (isMeasure(ai) || isOf(ai, "390", "392", "394", "395")) return scaled(value, Number(ai[3]));
   if (isOf(ai, "391", "393")) return scaled(value.slice(3), Number(ai[3]));
-  return isTemperature(ai) ? (value.endsWith("-") && Number(value.slice(0, 6)) ? "-" : "") + scaled(value.slice(0, 6), 2) : undefined;
+  return isTemperature(ai)
+    ? (value.endsWith("-") && Number(value.slice(0, 6)) ? "-" : "") + scaled(value.slice(0, 6), 2) : undefined;
 }
 
 // The unit of such a number.
@@ -48,11 +54,14 @@ function countryCodes(ai, value) {
 }
 
 // The countries of a value whose codes are known, by their two letters.
-const countriesOf = (ai, value) => countryCodes(ai, value).map((code) => COUNTRY_LETTERS.get(code) ?? code).filter((code) => KNOWN_COUNTRIES.has(code));
+const countriesOf = (ai, value) => countryCodes(ai, value).map((code) => COUNTRY_LETTERS.get(code) ?? code)
+  .filter((code) => KNOWN_COUNTRIES.has(code));
 
 // The place that 4309 names, in ten millionths of a degree from the South Pole and to the east.
 function placeOf(ai, value) {
   if (ai !== "4309") return undefined;
-  const degrees = (units) => (units < 0 ? "-" : "") + scaled(String(Math.abs(units)), 7), east = Number(value.slice(10));
-  return { latitude: degrees(Number(value.slice(0, 10)) - 900_000_000), longitude: degrees(east > 1_800_000_000 ? east - 3_600_000_000 : east) };
+  const degrees = (units) => (units < 0 ? "-" : "") + scaled(String(Math.abs(units)), 7),
+    east = Number(value.slice(10));
+  return { latitude: degrees(Number(value.slice(0, 10)) - 900_000_000),
+    longitude: degrees(east > 1_800_000_000 ? east - 3_600_000_000 : east) };
 }

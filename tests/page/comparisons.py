@@ -1,27 +1,30 @@
 """Counts the comparisons of the page's tests and the wrong ones, and helps them to measure time."""
+from __future__ import annotations
+
 import contextlib
 import json
 import os
 import sys
+from typing import Any, Iterator
 
 counts = {"compared": 0, "wrong": 0}
 
 
-def same(what, got, wanted):
+def same(what: str, got: object, wanted: object) -> None:
     counts["compared"] += 1
     if got != wanted:
         counts["wrong"] += 1
         print(f"wrong: {what}: {str(got)[:400]}, not {str(wanted)[:400]}", file=sys.stderr, flush=True)
 
 
-def ended():
+def ended() -> bool:
     """Prints the counts, and returns the status."""
     print(f"{counts['compared']} compared, {counts['wrong']} wrong")
     return counts["wrong"] != 0 or not counts["compared"]
 
 
 @contextlib.contextmanager
-def before_others():
+def before_others() -> Iterator[float]:
     """Gives what starts here priority over other work of the machine, if it may; otherwise returns by how much limits must grow."""
     try:
         os.sched_setscheduler(0, os.SCHED_RR, os.sched_param(1))
@@ -32,7 +35,7 @@ def before_others():
         os.sched_setscheduler(0, os.SCHED_OTHER, os.sched_param(0))
 
 
-def texts():
+def texts() -> dict[str, Any]:
     """The page's texts by language, as the repository has them."""
     folder = os.path.join(os.path.dirname(os.path.dirname(os.path.dirname(os.path.abspath(__file__)))), "shop")
     found = {}

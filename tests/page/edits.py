@@ -7,6 +7,7 @@ import os
 import shutil
 import subprocess
 import sys
+from typing import Sequence
 
 import same_lists
 
@@ -52,14 +53,15 @@ EDITS = [
     ("mending.js", "others.length === Number(power)", "true"),
     ("mending.js", "(10 - at)", "(9 - at)"),
     ("mending.js", "[10, 11].includes(joined.length)", "[11].includes(joined.length)"),
-    ("typed.js", "isClear: !!meant && fixes.length > 0 };", "isClear: false };"),
+    ("typed.js", "isClear: !!right };", "isClear: false };"),
     ("mending.js", "[7, 11, 12]", "[7, 11]"),
     ("typed.js", "find((it) => /^0[0-9]{7}$/", "find((it) => /^0[0-9]{8}$/"),
     ("typed.js", "at += ai.length + value.length + 1;", "at += ai.length + value.length;"),
     ("typed.js", "if (number === 40) {", "if (number === 41) {"),
     ("typed.js", "\\u2010-\\u2015-", "\\u2010-\\u2015"),
-    ("typed.js", "if (/^0+$/.test(digits)) return { refused", "if (false) return { refused"),
-    ("typed.js", "if (wrong < 0) return said;", "return said;"),
+    ("typed.js", "return refused ? { refused } : {", "return {"),
+    ("core.js", "gs1.read(\"gs1_c_read_text\"", "gs1.read(\"gs1_c_read_message\""),
+    ("articles.js", "usual === kind ? answer.text : ", ""),
     ("articles.js", "8: \"ean8\", 12: \"upca\"", "8: \"ean8\", 12: \"ean13\""),
     ("articles.js", "MOST_COPIES = 1000", "MOST_COPIES = 9999"),
     ("articles.js", "identifier === \"]E0\" && digits.length === 8 ? \"upce\"", "false ? \"upce\""),
@@ -94,7 +96,7 @@ EDITS = [
 ]
 
 
-def is_noticed(page, lists, answers):
+def is_noticed(page: str, lists: str, answers: Sequence[object]) -> bool:
     """Whether these scripts of the page answer a list in another way than the command. It ends with the first one."""
     with open(lists, "rb") as asked, subprocess.Popen(["node", f"{HERE}/lists_in_node.js"], env={**os.environ, "PAGE": page}, stdin=asked,
                                                       stdout=subprocess.PIPE, stderr=subprocess.DEVNULL) as node:
@@ -104,7 +106,7 @@ def is_noticed(page, lists, answers):
             node.kill()
 
 
-def main():
+def main() -> bool:
     made = [*same_lists.of_shops(), *same_lists.made(LISTS)]
     lists, answers = os.path.join(WORK, "lists"), [same_lists.by_python(data) for data in made]
     with open(lists, "wb") as file:

@@ -3,6 +3,8 @@
 Usage: opened.py WORK. What the page takes from a file is compared with what the command takes; one list that was saved in
 many ways must give the same outputs, byte for byte. Its last line is the counts.
 """
+from __future__ import annotations
+
 import base64
 import csv
 import glob
@@ -13,6 +15,7 @@ import random
 import sys
 import time
 import zipfile
+from typing import Any, Callable, Iterable, Mapping
 
 import openpyxl
 
@@ -29,24 +32,24 @@ TEXTS = texts()
 SECONDS, MEGABYTES = 2, 200
 
 
-def page_text(language, key, *values):
+def page_text(language: str, key: str, *values: object) -> str:
     text = TEXTS[language]["page"].get(key) or TEXTS[language]["faults"][key]
     for at, value in enumerate(values):
         text = text.replace(f"{{{at}}}", str(value))
     return text
 
 
-def data_of(path):
+def data_of(path: str) -> bytes:
     with open(path, "rb") as file:
         return file.read()
 
 
-def called(page, call, data):
+def called(page: Browser | Firefox, call: str, data: bytes) -> Any:
     """What a function of the page answers to bytes."""
     return page.value(f"{call}(Uint8Array.from(atob('{base64.b64encode(data).decode()}'), (sign) => sign.charCodeAt(0)))")
 
 
-def drawn(person, what):
+def drawn(person: Browser | Firefox, what: Callable[[], object]) -> None:
     """Does something, and waits until the page has drawn its labels or says what is wrong with a file."""
     person.value("document.getElementById('labels-told').textContent = '…', document.getElementById('list-fault').textContent = ''")
     what()
@@ -54,19 +57,19 @@ def drawn(person, what):
     person.until("!/…$/.test(document.getElementById('labels-told').textContent) || document.getElementById('list-fault').textContent", 120)
 
 
-def take(person, path):
+def take(person: Browser | Firefox, path: str) -> None:
     """Opens a file."""
     drawn(person, lambda: person.files("#list-file", path))
 
 
-def enter(person, text):
+def enter(person: Browser | Firefox, text: str) -> None:
     """Pastes a list over the one that stands there."""
     drawn(person, lambda: person.fill("#list", text))
 
 
 # ---- what the page takes from a file
 
-def as_the_command(page):
+def as_the_command(page: Browser | Firefox) -> list[str]:
     """All saved spreadsheets: the page and the command take the same articles, and say the same of the others."""
     paths = sorted(path for path in glob.glob(f"{SAVED}/**", recursive=True) if path.endswith((".xlsx", ".ods", ".xls", ".csv")))
     files = [path for path in paths if not path.endswith("expected.csv")]
@@ -76,7 +79,7 @@ def as_the_command(page):
     return files
 
 
-def outputs(page):
+def outputs(page: Browser | Firefox) -> Any:
     return page.value("""(async () => {
         const { stock, dpi, cell, labels } = shop.made, dots = DOTS_IN_MM[dpi], pages = allPages();
         const png = await pngOfPage(pages[0], stock, dpi), pdf = await pdfOf(pages, stock, dots);
@@ -85,7 +88,7 @@ def outputs(page):
     })()""")
 
 
-def ways(page):
+def ways(page: Browser | Firefox) -> None:
     """One list saved in many ways: the page's SVG, ZPL, PNG and PDF equal each other byte for byte."""
     paths, first = sorted(glob.glob(f"{SAVED}/ways/*")), None
     same("ways to save a list", len(paths) >= 10, True)
@@ -97,7 +100,7 @@ def ways(page):
         same(f"the labels of {os.path.basename(path)}", page.value("[shop.made.labels.length, shop.made.faults.length]"), [7, 0])
 
 
-def packed(parts):
+def packed(parts: Mapping[str, bytes]) -> bytes:
     made = io.BytesIO()
     with zipfile.ZipFile(made, "w", zipfile.ZIP_DEFLATED) as file:
         for name, data in parts.items():
@@ -105,21 +108,21 @@ def packed(parts):
     return made.getvalue()
 
 
-def changed(path, part, change):
+def changed(path: str, part: str, change: Callable[[bytes], bytes | None]) -> bytes:
     """A spreadsheet with one of its parts changed, or left out."""
     with zipfile.ZipFile(path) as file:
         parts = {name: change(file.read(name)) if name == part else file.read(name) for name in file.namelist()}
     return packed({name: data for name, data in parts.items() if data is not None})
 
 
-def with_doctype(data):
+def with_doctype(data: bytes) -> bytes:
     at = data.index(b"?>") + 2
     return data[:at] + b'<!DOCTYPE x [<!ENTITY a SYSTEM "file:///etc/hostname">]>' + data[at:]
 
 
-def repeated(element, times):
+def repeated(element: bytes, times: int) -> Callable[[bytes], bytes]:
     """Puts a repetition into the last such element before an article's name."""
-    def change(data):
+    def change(data: bytes) -> bytes:
         at = data.rindex(b"<table:table-" + element, 0, data.index(b"Oat biscuits"))
         name = b"rows" if element == b"row" else b"columns"
         end = at + len(b"<table:table-" + element)
@@ -127,13 +130,13 @@ def repeated(element, times):
     return change
 
 
-def far_cells(data):
+def far_cells(data: bytes) -> bytes:
     """Twenty thousand lines whose only cell is in the last column."""
     cell = b'<row r="%d"><c r="XFD%d" t="inlineStr"><is><t>far</t></is></c></row>'
     return data.replace(b"</sheetData>", b"".join(cell % (line, line) for line in range(1_000, 21_000)) + b"</sheetData>")
 
 
-def harmful():
+def harmful() -> dict[str, tuple[bytes, str]]:
     """Archives that are made to harm, with what the page says of each."""
     xlsx, ods, sheet = f"{SAVED}/two-sheets.xlsx", f"{SAVED}/two-sheets.ods", "xl/worksheets/sheet1.xml"
     padded = lambda data: data[:data.index(b"?>") + 2] + b" " * 300_000_000 + data[data.index(b"?>") + 2:]
@@ -150,7 +153,7 @@ def harmful():
     }
 
 
-def refused(page, slower):
+def refused(page: Browser, slower: float) -> None:
     """Harmful archives: refused by name, within limits of time and memory."""
     for name, (data, key) in harmful().items():
         path = os.path.join(WORK, name)
@@ -166,7 +169,7 @@ def refused(page, slower):
         os.remove(path)
 
 
-def damaged(page, count):
+def damaged(page: Browser | Firefox, count: int) -> None:
     """Archives with damaged bytes: read as the command reads them, or as if they were whole, or refused. Nothing else is thrown."""
     names = ("libreoffice.xlsx", "libreoffice.ods", "openpyxl.xlsx")
     chance, sources = random.Random(4), [data_of(f"{SAVED}/ways/{name}") for name in names]
@@ -185,7 +188,7 @@ def damaged(page, count):
     same("damaged archives, of which some are read", (0 < read < count, count), (True, count))
 
 
-def with_limits():
+def with_limits() -> None:
     """What has limits of time and memory, in a browser that goes before other work of the machine."""
     with before_others() as slower:
         page = Browser(URL)
@@ -197,7 +200,7 @@ def with_limits():
             page.close()
 
 
-def long_sheet():
+def long_sheet() -> str:
     """A spreadsheet of 5,000 articles with six columns."""
     book = openpyxl.Workbook()
     sheet = book.active
@@ -211,7 +214,7 @@ def long_sheet():
     return path
 
 
-def in_time(page, slower):
+def in_time(page: Browser | Firefox, slower: float) -> None:
     """5,000 lines of .xlsx are read within 3 s."""
     data, times = data_of(long_sheet()), []
     for _ in range(6):
@@ -230,7 +233,7 @@ def in_time(page, slower):
 ASKS = "EAN;Artikel;Preis A;Preis B\n4012345010008;Haferkekse;2,90;2,70\n4012345010374;Roggenbrot;3,59;3,49\n"
 
 
-def questions(person, language):
+def questions(person: Browser | Firefox, language: str) -> None:
     """A list with two prices: by the keyboard alone a person chooses the second, and then says that labels have none."""
     said = lambda key, *values: page_text(language, key, *values)
     person.click(f"#languages [lang={language}]")
@@ -262,13 +265,13 @@ def questions(person, language):
     same(f"a free article, {language}", prices_on(person), ["0,00"])
 
 
-def prices_on(person):
+def prices_on(person: Browser | Firefox) -> list[str]:
     """The prices on the sheet that is shown."""
     texts_shown = person.value("[...document.querySelectorAll('#paper text')].map((one) => one.textContent)")
     return [text for text in texts_shown if "," in text]
 
 
-def encodings(person, language):
+def encodings(person: Browser | Firefox, language: str) -> None:
     """A list whose bytes fit two code pages: the page shows a line in each, and reads it as a person says."""
     path = os.path.join(WORK, "asks.csv")
     with open(path, "wb") as file:
@@ -290,7 +293,7 @@ def encodings(person, language):
     os.remove(path)
 
 
-def corrections(person, language, folder):
+def corrections(person: Browser | Firefox, language: str, folder: str) -> None:
     """Lists to correct: what is left out is saved, all numbers that are clearly meant are put right, and the list is saved."""
     made = articles(5)
     wrong = made[3][0][:-1] + str((int(made[3][0][-1]) + 1) % 10)
@@ -313,7 +316,7 @@ def corrections(person, language, folder):
     same(f"the saved list, {language}", kept.replace("\r\n", "\n").replace('"', ""), rest)
 
 
-def saved(person, button, path):
+def saved(person: Browser | Firefox, button: str, path: str) -> bytes:
     """What a button saves. Removes the file."""
     person.click(button)
     limit = time.time() + 60
@@ -327,7 +330,7 @@ def saved(person, button, path):
     return data
 
 
-def shown(person, paths):
+def shown(person: Browser | Firefox, paths: Iterable[str]) -> list[list[str]]:
     """What a person reads of each file."""
     told = []
     for path in paths:
@@ -337,7 +340,7 @@ def shown(person, paths):
     return told
 
 
-def main():
+def main() -> bool:
     folder = os.path.join(os.path.abspath(WORK), "saved")
     os.makedirs(folder, exist_ok=True)
     page = Browser(URL, width=1280, height=900)

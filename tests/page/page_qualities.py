@@ -3,6 +3,8 @@ time. Makes the pictures of the documents.
 
 Usage: page_qualities.py PROGRAM WORK EXAMPLES. PROGRAM is gs1_hub, and EXAMPLES the folder for the pictures. Its last line is the counts.
 """
+from __future__ import annotations
+
 import base64
 import csv
 import functools
@@ -19,6 +21,7 @@ import subprocess
 import sys
 import threading
 import zipfile
+from typing import Any, Iterator, Sequence
 
 import brotli
 from browser import Browser
@@ -40,30 +43,30 @@ LABELS = [
 ]
 
 
-def answer(*words, text=b""):
+def answer(*words: str, text: bytes = b"") -> bytes:
     done = subprocess.run([PROGRAM, *words], input=text, stdout=subprocess.PIPE, stderr=subprocess.PIPE)
     return done.stdout if done.returncode == 0 else done.stderr
 
 
-def sentence(key, *values, language="en"):
+def sentence(key: str, *values: object, language: str = "en") -> str:
     text = TEXTS[language]["faults"][key]
     for i, value in enumerate(values):
         text = text.replace(f"{{{i}}}", str(value))
     return f"{text[0].upper()}{text[1:]}."
 
 
-def make(page, text, priced=True):
+def make(page: Browser, text: str, priced: bool = True) -> None:
     """Enters a list, perhaps of labels without a price, and waits until everything is drawn."""
     page.value(f"showTask('labels'), setList({json.dumps(text)}), document.made")
     if not priced:
         page.value("at('no-price').click(), document.made")
 
 
-def told(page):
+def told(page: Browser) -> tuple[str, str]:
     return page.text("labels-told"), page.text("fault-list")
 
 
-def choose(page, field, path):
+def choose(page: Browser, field: str, path: str) -> None:
     """Chooses a list's file, and waits until the page has read it."""
     page.value("document.taken = null")
     page.files(field, path)
@@ -73,7 +76,7 @@ def choose(page, field, path):
 
 # ---- lists
 
-def bad_lists(page):
+def bad_lists(page: Browser) -> None:
     """The page reports files that are no lists, and keeps what was typed."""
     typed = listed(articles(3))
     make(page, typed)
@@ -98,7 +101,7 @@ def bad_lists(page):
     same("a list of Windows", page.value("[shop.made.labels[0].item.name, shop.made.labels[0].item.price].join()"), "Käse,2,90 €")
 
 
-def hard_lists(page):
+def hard_lists(page: Browser) -> None:
     """Long names, other scripts, copies, a label that is too narrow, columns corrected by hand."""
     make(page, f"ean;name\n96385074;{'W' * 10_000}\n", priced=False)
     same("a name of 10,000 letters", (told(page)[0], sentence("cut", "")[:40] in page.text("warnings")), ("1 label on 1 sheet", True))
@@ -133,7 +136,7 @@ def hard_lists(page):
 PIECES = ['"', ";", ",", "\t", "\n", "\0", "\ufeff", "(01)", "^", "ü", "9" * 30, "E+12", "€", "中", "-", "=" * 300, "🍎", "\x1d", "copies", "<b>", "{0}", "$&", "]E0", "https://", "sep=;\n", "gtin", "\u202e"]
 
 
-def damaged_lists(page, count):
+def damaged_lists(page: Browser, count: int) -> None:
     """Damaged lists on all stock: the page reads again what it draws, has a text for each other line, and throws nothing."""
     chance, lists = random.Random(5), []
     for _ in range(count):
@@ -142,7 +145,7 @@ def damaged_lists(page, count):
             at = chance.randrange(len(text) + 1)
             text = text[:at] + chance.choice(PIECES) + text[at:] if chance.random() < 0.7 else text[:at] + text[at + chance.randrange(1, 6):]
         lists.append(text)
-    found = {"drawn": 0, "faults": 0, "checks": 0, "textless": [], "thrown": []}
+    found: dict[str, Any] = {"drawn": 0, "faults": 0, "checks": 0, "textless": [], "thrown": []}
     for first in range(0, count, 100):
         for key, more in tried(page, lists[first:first + 100], first).items():
             found[key] += more
@@ -152,7 +155,7 @@ def damaged_lists(page, count):
     same("damaged lists that are drawn, and that are not", (found["drawn"] > count, found["faults"] > count / 3), (True, True))
 
 
-def tried(page, lists, first):
+def tried(page: Browser, lists: Sequence[str], first: int) -> Any:
     """What the page draws of damaged lists, the first of which has this number: labels, errors, those without a text, and what it throws."""
     return json.loads(page.value("""(async (lists, first) => {
         const stocks = Object.keys(STOCKS), dpis = Object.keys(DOTS_IN_MM), found = { drawn: 0, faults: 0, textless: [], thrown: [], checks: 0 };
@@ -174,7 +177,7 @@ def tried(page, lists, first):
     })(%s, %d)""" % (json.dumps(lists), first)))
 
 
-def remembers(page):
+def remembers(page: Browser) -> None:
     """Each error has a text in each language; the page remembers the language and the task."""
     with open(f"{ROOT}/docs/FAULTS.md", encoding="utf-8") as file:
         numbers = sorted(set(re.findall(r"^\| (\d+) [A-Z]", file.read(), re.MULTILINE)), key=int)
@@ -190,7 +193,7 @@ def remembers(page):
     page.value("document.querySelector('#languages [lang=en]').click(), showTask('labels'), document.made")
 
 
-def listed_ais():
+def listed_ais() -> Iterator[str]:
     """The AIs of tables/ais.tsv: from one to another that differ in digits alone."""
     with open(f"{ROOT}/tables/ais.tsv", encoding="utf-8") as file:
         ranges = [line.split("\t")[0].partition("-") for line in file.read().splitlines()[1:]]
@@ -199,7 +202,7 @@ def listed_ais():
         yield from ("".join(map(str, ai)) for ai in itertools.product(*digits))
 
 
-def in_words(page):
+def in_words(page: Browser) -> None:
     """Each AI has a title of its own in each language, and what it measures is said."""
     ais = sorted(listed_ais())
     same("the AIs of the page", page.value("[...AIS.keys()].sort()"), ais)
@@ -220,7 +223,7 @@ def in_words(page):
 
 # ---- browsers
 
-def old_browsers():
+def old_browsers() -> None:
     """Browsers without 64-bit memory, without WebAssembly, and older ones; and a folder without the module."""
     for bits, works in ((32, True), (0, False)):
         old = Browser("about:blank#", started="true")
@@ -250,7 +253,7 @@ def old_browsers():
             old.close()
 
 
-def is_packed():
+def is_packed() -> None:
     """The zip has the page and all files that it names, is small, and opens from a folder. Without its module the page says so."""
     stick = os.path.join(os.path.abspath(WORK), "USB stick ü")
     with zipfile.ZipFile(f"{ROOT}/page/out/noriladle-page.zip") as packed:
@@ -289,16 +292,17 @@ def is_packed():
         page.close()
 
 
-def symbol_drawn(image):
+def symbol_drawn(image: bytes) -> str:
     """The left quiet zone and the widths of the bars of a label that is drawn, at a dot a module, in three rows of 640 dots."""
     row = "".join(f"{byte:08b}" for byte in image[-160:-80])
     light, *runs = (len(run) for run in re.findall("0+|1+", row))
     return f"{light} {''.join(map(str, runs[:-1]))}"
 
 
-def runs_in_node():
+def runs_in_node() -> None:
     """The same calls by the 32-bit module in Node, compared with what the program answers."""
-    calls, wanted = [], []
+    calls: list[list[str]] = []
+    wanted: list[str | list[str]] = []
     for kind, typed in LABELS:
         image = answer("print", *"--columns 1 --rows 1 --module 1 --width 640 --height 3 --year 2026".split(), text=f"{kind},{typed}\n".encode())
         text = typed.replace("^", "\x1d")
@@ -325,17 +329,17 @@ def runs_in_node():
 # ---- the network
 
 class Handler(http.server.SimpleHTTPRequestHandler):
-    asked = []
+    asked: list[str] = []
 
-    def log_message(self, *words):
+    def log_message(self, *words: object) -> None:
         pass
 
-    def do_GET(self):
+    def do_GET(self) -> None:
         Handler.asked.append(self.path)
         super().do_GET()
 
 
-def served():
+def served() -> None:
     """From a server the page can be installed, and opens after the server is gone. It requests only its own files."""
     server = http.server.ThreadingHTTPServer(("127.0.0.1", 0), functools.partial(Handler, directory=f"{ROOT}/page"))
     threading.Thread(target=server.serve_forever, daemon=True).start()
@@ -362,7 +366,7 @@ def served():
         page.close()
 
 
-def keeps_to_itself(page):
+def keeps_to_itself(page: Browser) -> None:
     """The page makes no network requests, and its policy allows only its own files."""
     same("what is asked of a network", [it for it in page.asked if not re.match("file:|data:|blob:", it)], [])
     policy = page.value("document.querySelector('meta[http-equiv=Content-Security-Policy]').content")
@@ -377,7 +381,7 @@ def keeps_to_itself(page):
 
 # ---- for everybody
 
-def axe_core():
+def axe_core() -> str:
     """axe-core as Chromium's own Lighthouse has it: a text between backticks in one of its packed resources."""
     with open("/usr/lib/chromium/resources.pak", "rb") as file:
         data = file.read()
@@ -407,7 +411,7 @@ STATES = {
 }
 
 
-def for_everybody():
+def for_everybody() -> None:
     """axe-core finds nothing in any state, on a desk and a telephone, in light and dark, in each language; taken apart, it does."""
     axe, runs = axe_core(), 0
     print(re.search(r"axe v[\d.]+", axe)[0])
@@ -431,13 +435,13 @@ def for_everybody():
     print(f"axe-core: {runs} runs")
 
 
-def takes_its_time():
+def takes_its_time() -> None:
     """Times, of the quickest of some tries."""
     with before_others() as slower:
         times_taken(slower)
 
 
-def times_taken(slower):
+def times_taken(slower: float) -> None:
     page, times, text = Browser(URL), [], json.dumps(listed(articles(1000)))
     try:
         for _ in range(6):
@@ -462,7 +466,7 @@ def times_taken(slower):
 
 # ---- pictures
 
-def photographed(sheet):
+def photographed(sheet: Image.Image) -> Image.Image:
     """A part of a sheet as a telephone takes it: a little turned and soft, on a dark desk."""
     part = sheet.convert("L").crop((0, 438, 1654, 1320)).resize((1100, 587)).convert("RGB")
     desk = Image.new("RGB", (1400, 900), (86, 82, 74))
@@ -471,13 +475,14 @@ def photographed(sheet):
     return desk.filter(ImageFilter.GaussianBlur(0.8))
 
 
-def leaves_pictures():
+def leaves_pictures() -> None:
     """The pictures of the documents: each task on a desk and on a telephone."""
     with open(f"{ROOT}/examples/shelf.csv", encoding="utf-8", newline="") as file:
         goods = [(it["name"], f"{it['price']} €") for it in csv.DictReader(file)]
     rows = [(number, *it) for (number, _, _), it in zip(articles(22), [*goods, ("Milk 1 l", "1.19 €")])]
     rows[3] = (f"{rows[3][0][:-1]}5", *rows[3][1:])
     text = listed([*rows, ("4.01235E+12", "Orange juice", "1.00 €")])
+    size: Any
     for name, language, size in (("desk", "en", {"width": 1280, "height": 860}), ("telephone", "en", {"width": 390, "height": 844, "mobile": True})):
         page = Browser(URL, **size)
         try:
@@ -498,14 +503,14 @@ def leaves_pictures():
             page.close()
 
 
-def shot(page, path, top=None):
+def shot(page: Browser, path: str, top: str | None = None) -> None:
     """Leaves a picture of the window as it is seen from an element on, in few colours."""
     page.value(f"scrollTo(0, {json.dumps(top)} ? Math.max(0, document.querySelector({json.dumps(top)}).getBoundingClientRect().top + scrollY - 100) : 0), new Promise((done) => setTimeout(done, 4500))")
     data = base64.b64decode(page.call("Page.captureScreenshot", format="png")["data"])
     Image.open(io.BytesIO(data)).convert("RGB").quantize(128, Image.Quantize.FASTOCTREE, dither=Image.Dither.NONE).save(path, optimize=True)
 
 
-def main():
+def main() -> bool:
     page = Browser(URL)
     try:
         bad_lists(page)

@@ -4,10 +4,14 @@ picture the page must give Python's answer, byte for byte.
 Usage: photos.py WORK [GROUP...]. WORK is a folder for the pictures. With groups it reads only these, and asserts no limit.
 Its last lines are the limits, each with what was seen, and their counts.
 """
+from __future__ import annotations
+
 import concurrent.futures
 import json
 import os
 import sys
+from concurrent.futures import Executor
+from typing import Iterator, Sequence
 
 import pictures
 from browser import Browser
@@ -26,12 +30,12 @@ WITHOUT = 1000
 class Page:
     """The page in a browser, asked of files."""
 
-    def __init__(self):
+    def __init__(self) -> None:
         self.browser = Browser(f"file://{ROOT}/page/index.html")
         self.browser.value("globalThis.chosen = document.createElement('input'), chosen.type = 'file', chosen.multiple = true, 0")
         self.asked = self.differing = 0
 
-    def symbols(self, paths):
+    def symbols(self, paths: Sequence[str]) -> tuple[list[list[str]], float]:
         """What each symbol of each of the pictures says; and the milliseconds that all took."""
         node = self.browser.call("Runtime.evaluate", expression="chosen")["result"]["objectId"]
         self.browser.call("DOM.setFileInputFiles", files=[os.path.abspath(path) for path in paths], objectId=node)
@@ -54,19 +58,19 @@ class Page:
         return [said_in(lines) for lines in told["found"]], told["passed"]
 
 
-def said_in(lines):
+def said_in(lines: str) -> list[str]:
     """What each symbol of a picture says, in the words of pictures.Symbol.line: behind its eight places and its rows stand identifier and pairs."""
     said = [line.split(" ", 10)[9:] for line in lines.splitlines() if line.count(" ") > 9]
     return [f"{identifier} " + "".join(f"({ai}){value}" for ai, _, value in (it.partition("=") for it in pairs.split("\t"))) for identifier, pairs in said]
 
 
-def compare(page, name, symbols, work, pool):
+def compare(page: Page, name: str, symbols: list[pictures.Symbol], work: str, pool: Executor) -> tuple[int, dict[str, int], dict[str, int], float]:
     """How many pictures of a group each reader reads, and in how many it reads something else; the milliseconds of the page."""
     made = pictures.group(name, symbols, work)
     found, passed = page.symbols([path for _, path in made])
     right, wrong = dict.fromkeys(READERS, 0), dict.fromkeys(READERS, 0)
 
-    def note(reader, wanted, got):
+    def note(reader: str, wanted: str, got: Sequence[str]) -> None:
         right[reader] += wanted in got
         wrong[reader] += any(read != wanted for read in got)
 
@@ -82,7 +86,8 @@ def compare(page, name, symbols, work, pool):
     return len(made), right, wrong, passed
 
 
-def table(page, names, symbols, work):
+def table(page: Page, names: Sequence[str], symbols: list[pictures.Symbol],
+          work: str) -> tuple[int, dict[str, int], dict[str, int], dict[str, tuple[int, int]]]:
     """Prints a row for each group and one for all; the counts of all, and of the page by group."""
     row = "| {:36} | {:>8} | {:>5} | {:>7} | {:>11} | {:>14} |"
     print(row.format("group", "pictures", *READERS, "ms of the page"))
@@ -101,7 +106,7 @@ def table(page, names, symbols, work):
     return total, right, wrong, by_group
 
 
-def without(page, symbols, work):
+def without(page: Page, symbols: list[pictures.Symbol], work: str) -> tuple[int, int]:
     """How many of the pictures without a symbol show the page one."""
     paths, found = pictures.without_symbol(WITHOUT, symbols, work), 0
     for i in range(0, len(paths), 50):
@@ -112,7 +117,8 @@ def without(page, symbols, work):
     return len(paths), found
 
 
-def limits(total, right, wrong, by_group, none, page):
+def limits(total: int, right: dict[str, int], wrong: dict[str, int], by_group: dict[str, tuple[int, int]], none: tuple[int, int],
+           page: Page) -> Iterator[tuple[str, object, bool]]:
     """What the page has to reach: what is asked, what was seen, and whether it holds."""
     yield "pictures, at least 1,800", total, total >= 1800
     yield "read, at least 99.5 of 100", f"{100 * right['page'] / total:.2f}", right["page"] >= 0.995 * total
@@ -128,7 +134,7 @@ def limits(total, right, wrong, by_group, none, page):
     yield f"of {page.asked} pictures the page and Python answer alike, of all", "not all" if page.differing else "all", page.differing == 0 and page.asked >= 2800
 
 
-def main():
+def main() -> int:
     work, names = sys.argv[1], sys.argv[2:]
     symbols, page = pictures.symbols(work), Page()
     try:

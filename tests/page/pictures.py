@@ -3,6 +3,8 @@
 The same pictures at each run: the texts, the places and the noise come from fixed seeds. Lengths are in dots, which are the
 pixels of a picture; a picture is an array of grey values, rows first.
 """
+from __future__ import annotations
+
 import os
 import random
 import subprocess
@@ -31,7 +33,7 @@ TEXTS = {
 }
 
 
-def gtin12(upce):
+def gtin12(upce: str) -> str:
     """The GTIN-12 of the eight digits of a UPC-E (GS1 General Specifications, figure 5.2.2.4-1)."""
     six, last = upce[1:7], upce[6]
     if last in "012":
@@ -46,7 +48,7 @@ def gtin12(upce):
 class Symbol:
     """A symbol of zint's, dark on light, with its quiet zones, and what it says. It may have more words for zint."""
 
-    def __init__(self, kind, text, path, *words):
+    def __init__(self, kind: str, text: str, path: str, *words: str) -> None:
         self.kind = kind
         if kind == "gs1128":
             self.line = f"{KINDS[kind].identifier} {text}"
@@ -57,12 +59,12 @@ class Symbol:
         self.image = drawn(KINDS[kind].zint, data_of(kind, text), path, *words)
 
 
-def data_of(kind, text):
+def data_of(kind: str, text: str) -> str:
     """What zint is given to draw a text."""
     return text.replace("(", "[").replace(")", "]") if kind == "gs1128" else text[:-1]
 
 
-def drawn(barcode, data, path, *words):
+def drawn(barcode: str, data: str, path: str, *words: str) -> numpy.ndarray:
     """The image that zint draws of a text, with white paper round it."""
     options = ["--scale=4", "--height=40", "--quietzones", f"--barcode={barcode}", f"--data={data}", f"--output={path}", *words]
     told = subprocess.run(["zint", *options], stdout=subprocess.PIPE, stderr=subprocess.STDOUT)
@@ -75,7 +77,7 @@ def drawn(barcode, data, path, *words):
     return cv2.copyMakeBorder(image, border, border, border, border, cv2.BORDER_CONSTANT, value=255)
 
 
-def symbols(folder):
+def symbols(folder: str) -> list[Symbol]:
     """The symbols of all texts."""
     return [Symbol(kind, text, os.path.join(folder, "symbol.png")) for kind, texts in TEXTS.items() for text in texts]
 
@@ -90,7 +92,8 @@ class Look:
     harm: what was done to the label.
     """
 
-    def __init__(self, dots=3, angle=0, tilt=0, bend=0, blur=0, noise=0, light=1, contrast=1, jpeg=None, table=False, harm=None):
+    def __init__(self, dots: float = 3, angle: float = 0, tilt: float = 0, bend: float = 0, blur: float = 0, noise: float = 0,
+                 light: float = 1, contrast: float = 1, jpeg: int | None = None, table: bool = False, harm: str | None = None) -> None:
         self.dots, self.angle, self.tilt, self.bend = dots, angle, tilt, bend
         self.blur, self.noise, self.light, self.contrast = blur, noise, light, contrast
         self.jpeg, self.table, self.harm = jpeg, table, harm
@@ -122,7 +125,7 @@ GROUPS = {
 }
 
 
-def harmed(image, harm, chance):
+def harmed(image: numpy.ndarray, harm: str, chance: random.Random) -> numpy.ndarray:
     """The label's image with what was done to it; its bars stand between a tenth and seven tenths of its height."""
     image = image.copy()
     height, width = image.shape
@@ -146,7 +149,7 @@ def harmed(image, harm, chance):
     return image
 
 
-def bent(image, radius):
+def bent(image: numpy.ndarray, radius: float) -> numpy.ndarray:
     """The image as seen on a bottle that stands upright, whose radius is this many widths of the image."""
     height, width = image.shape
     r = radius * width
@@ -157,7 +160,7 @@ def bent(image, radius):
     return cv2.remap(image, *numpy.meshgrid(x, y), cv2.INTER_LINEAR, borderValue=255)
 
 
-def tilted(tilt, width, height, chance):
+def tilted(tilt: float, width: int, height: int, chance: random.Random) -> numpy.ndarray:
     """The matrix of a label that is tilted about its middle, so that the scale changes by `tilt` from end to end."""
     matrix = numpy.eye(3)
     if tilt:
@@ -166,7 +169,7 @@ def tilted(tilt, width, height, chance):
     return matrix
 
 
-def placed(image, look, chance):
+def placed(image: numpy.ndarray, look: Look, chance: random.Random) -> numpy.ndarray:
     """The label in its picture: its grey values on paper, or on a table."""
     height, width = image.shape
     # A picture is made several times as large and then made smaller, as the dots of a camera gather light.
@@ -190,14 +193,14 @@ def placed(image, look, chance):
     return cv2.resize(laid, tuple(int(side) for side in size), interpolation=cv2.INTER_AREA)
 
 
-def table(size, chance):
+def table(size: tuple[int, ...], chance: random.Random) -> numpy.ndarray:
     """A ground with a grain, darker than paper."""
     source = numpy.random.RandomState(chance.randrange(1 << 30))
     coarse = source.normal(0, 1, (size[1] // 40 + 2, size[0] // 40 + 2)).astype(numpy.float32)
     return 140 + 20 * cv2.resize(coarse, size, interpolation=cv2.INTER_CUBIC)
 
 
-def seen(picture, look, chance):
+def seen(picture: numpy.ndarray, look: Look, chance: random.Random) -> numpy.ndarray:
     """What the camera makes of a picture: light, contrast, blur and noise."""
     height, width = picture.shape
     middle = (PAPER + INK) / 2
@@ -212,7 +215,7 @@ def seen(picture, look, chance):
     return numpy.clip(numpy.round(picture), 0, 255).astype(numpy.uint8)
 
 
-def picture_of(symbol, look, chance):
+def picture_of(symbol: Symbol | Bare, look: Look, chance: random.Random) -> numpy.ndarray:
     """A picture that shows a symbol so."""
     image = harmed(symbol.image, look.harm, chance) if look.harm else symbol.image
     if look.bend:
@@ -220,14 +223,14 @@ def picture_of(symbol, look, chance):
     return seen(placed(image, look, chance), look, chance)
 
 
-def write(picture, path, jpeg=None):
+def write(picture: numpy.ndarray, path: str, jpeg: int | None = None) -> str:
     """Writes a picture as PNG, or as JPEG of this quality; the path that it has."""
     path += ".jpg" if jpeg else ".png"
     cv2.imwrite(path, picture, [cv2.IMWRITE_JPEG_QUALITY, jpeg] if jpeg else [cv2.IMWRITE_PNG_COMPRESSION, 1])
     return path
 
 
-def group(name, drawn_symbols, folder):
+def group(name: str, drawn_symbols: list[Symbol], folder: str) -> list[tuple[Symbol, str]]:
     """The pictures of a group: the symbol of each, and its path."""
     look, made = GROUPS[name], []
     for i, symbol in enumerate(drawn_symbols):
@@ -253,33 +256,33 @@ PARITIES = ["OOOOOO", "OOEOEE", "OOEEOE", "OOEEEO", "OEOOEE", "OEEOOE", "OEEEOO"
 ODD = ["0001101", "0011001", "0010011", "0111101", "0100011", "0110001", "0101111", "0111011", "0110111", "0001011"]
 
 
-def ean13_modules(digits):
+def ean13_modules(digits: str) -> str:
     """The modules of an EAN-13 with these digits, right or wrong, 1 where dark."""
     right = ["".join("10"[int(m)] for m in code) for code in ODD]
     left = "".join(ODD[int(d)] if p == "O" else right[int(d)][::-1] for d, p in zip(digits[1:7], PARITIES[int(digits[0])]))
     return "101" + left + "01010" + "".join(right[int(d)] for d in digits[7:]) + "101"
 
 
-def bars(modules):
+def bars(modules: str) -> numpy.ndarray:
     """An image of these modules, with quiet zones."""
     row = numpy.array([0] * 12 + [int(m) for m in modules] + [0] * 12, numpy.uint8)
     return numpy.repeat(numpy.repeat(255 - 255 * row[None, :], DRAWN, axis=1), 40 * DRAWN, axis=0)
 
 
-def wrong_digit(chance):
+def wrong_digit(chance: random.Random) -> numpy.ndarray:
     """An EAN-13 whose check digit is wrong."""
     digits = [chance.randrange(10) for _ in range(12)]
     right = -sum(d * (1, 3)[i % 2] for i, d in enumerate(digits)) % 10
     return bars(ean13_modules("".join(map(str, digits)) + str((right + chance.randrange(1, 10)) % 10)))
 
 
-def random_bars(chance):
+def random_bars(chance: random.Random) -> numpy.ndarray:
     """Bars and spaces of one to four modules, as many as a symbol has."""
     count = chance.choice((33, 43, 59, 77, 61, 91, 121))
     return bars("".join("10"[i % 2] * chance.randrange(1, 5) for i in range(count)))
 
 
-def cut_symbol(symbol, chance):
+def cut_symbol(symbol: Symbol, chance: random.Random) -> numpy.ndarray:
     """A symbol whose one end is gone."""
     image = symbol.image.copy()
     width = image.shape[1] * chance.randrange(15, 60) // 100
@@ -288,7 +291,7 @@ def cut_symbol(symbol, chance):
     return image
 
 
-def words(chance):
+def words(chance: random.Random) -> numpy.ndarray:
     """Lines of print."""
     image = numpy.full((700, 1000), 255, numpy.uint8)
     for y in range(40, 700, 45):
@@ -297,7 +300,7 @@ def words(chance):
     return image
 
 
-def stripes(chance):
+def stripes(chance: random.Random) -> numpy.ndarray:
     """A fence: bars of one width, or nearly."""
     image = numpy.full((400, 1000), 255, numpy.uint8)
     wide, x = chance.randrange(6, 30), 40
@@ -307,7 +310,7 @@ def stripes(chance):
     return image
 
 
-def texture(chance):
+def texture(chance: random.Random) -> numpy.ndarray:
     """Noise of a grain, from dots to clouds."""
     source = numpy.random.RandomState(chance.randrange(1 << 30))
     grain = chance.choice((1, 2, 4, 16, 64))
@@ -317,7 +320,7 @@ def texture(chance):
     return numpy.clip(cv2.resize(coarse, (640, 480), interpolation=cv2.INTER_LINEAR), 0, 255).astype(numpy.uint8)
 
 
-def without_symbol(count, drawn_symbols, folder):
+def without_symbol(count: int, drawn_symbols: list[Symbol], folder: str) -> list[str]:
     """The paths of this many pictures that have no symbol."""
     others = [drawn(barcode, data, os.path.join(folder, "other.png")) for barcode, data in OTHERS]
     looks = [Look(), Look(dots=2), Look(angle=10), Look(angle=90), Look(blur=1.5), Look(noise=20),
@@ -343,5 +346,5 @@ def without_symbol(count, drawn_symbols, folder):
 class Bare:
     """An image in place of a symbol's."""
 
-    def __init__(self, image):
+    def __init__(self, image: numpy.ndarray) -> None:
         self.image = image

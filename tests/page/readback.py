@@ -1,4 +1,6 @@
 """Reads labels back: cuts each out of its page with its whole cell, where noriladle and zbarimg must read exactly that label."""
+from __future__ import annotations
+
 import concurrent.futures
 import io
 import os
@@ -8,6 +10,7 @@ import subprocess
 import sys
 import tempfile
 import zipfile
+from typing import Sequence
 
 ROOT = os.path.dirname(os.path.dirname(os.path.dirname(os.path.abspath(__file__))))
 sys.path.insert(0, os.path.join(ROOT, "python"))
@@ -22,7 +25,7 @@ STOCKS = {"3474": (3, 8, 70, 37, 0, (210, 297), 300), "L7160": (3, 7, 63.5, 38.1
           "5160": (3, 10, 66.675, 25.4, 3.175, (215.9, 279.4), 300), "57x32": (1, 1, 57, 32, 0, (57, 32), 203.2)}
 
 
-def articles(count):
+def articles(count: int) -> list[tuple[str, str, str]]:
     """Lines of a price list: EAN-13, EAN-8 and UPC-A."""
     chance, made = random.Random(7), []
     for i in range(count):
@@ -33,11 +36,11 @@ def articles(count):
     return made
 
 
-def listed(made):
+def listed(made: list[tuple[str, str, str]]) -> str:
     return "EAN;Artikel;Preis\n" + "".join(";".join(article) + "\n" for article in made)
 
 
-def pages_of_pdf(pdf, dpi):
+def pages_of_pdf(pdf: bytes, dpi: float) -> list[Image.Image]:
     with tempfile.TemporaryDirectory() as folder:
         with open(f"{folder}/sheet.pdf", "wb") as file:
             file.write(pdf)
@@ -45,12 +48,12 @@ def pages_of_pdf(pdf, dpi):
         return [Image.open(f"{folder}/{name}").convert("L").copy() for name in sorted(os.listdir(folder)) if name.startswith("page-")]
 
 
-def pages_of_svg(svgs, dpi):
+def pages_of_svg(svgs: Sequence[bytes], dpi: float) -> list[Image.Image]:
     made = (subprocess.run(["rsvg-convert", "--dpi-x", str(dpi), "--dpi-y", str(dpi)], input=svg, stdout=subprocess.PIPE, check=True).stdout for svg in svgs)
     return [Image.open(io.BytesIO(png)).convert("L") for png in made]
 
 
-def files_of(path):
+def files_of(path: str) -> list[bytes]:
     """What was saved: the file, or those of the zip."""
     if path.endswith(".zip"):
         with zipfile.ZipFile(path) as packed:
@@ -59,7 +62,7 @@ def files_of(path):
         return [file.read()]
 
 
-def pages_of_zpl(text):
+def pages_of_zpl(text: str) -> list[Image.Image]:
     """The labels as a printer would draw them: boxes, and one picture of dots for the texts (ZPL II, ^GB and ^GF)."""
     pages = []
     for label in re.findall(r"\^XA(.*?)\^XZ", text, re.DOTALL):
@@ -76,8 +79,9 @@ def pages_of_zpl(text):
     return pages
 
 
-def _zpl_rows(data, stride):
-    rows, row, count = [], "", 0
+def _zpl_rows(data: str, stride: int) -> list[bytes]:
+    row, count = "", 0
+    rows: list[bytes] = []
     for letter in data:
         if letter == ":":
             rows.append(rows[-1])
@@ -97,7 +101,7 @@ def _zpl_rows(data, stride):
     return rows
 
 
-def read_back(stock, pages, made, first=1):
+def read_back(stock: str, pages: Sequence[Image.Image], made: list[tuple[str, str, str]], first: int = 1) -> str:
     """How many labels each reader reads as they are: 'noriladle N, zbarimg N'."""
     columns, rows, width, height, gap, (wide, high), dpi = STOCKS[stock]
     left, top = (wide - columns * width - (columns - 1) * gap) / 2, (high - rows * height) / 2
@@ -113,14 +117,14 @@ def read_back(stock, pages, made, first=1):
     return f"noriladle {own}, zbarimg {other}"
 
 
-def _by_zbarimg(image):
+def _by_zbarimg(image: Image.Image) -> list[str]:
     with tempfile.NamedTemporaryFile(suffix=".png") as file:
         image.save(file.name)
         said = subprocess.run(["zbarimg", "-q", "--nodbus", "--raw", file.name], stdout=subprocess.PIPE, stderr=subprocess.DEVNULL).stdout
     return [word.zfill(14) for word in said.decode().split()]
 
 
-def read_by_command(pdf):
+def read_by_command(pdf: bytes) -> list[str]:
     """The numbers that `noriladle read` finds in a PDF file, in rising order."""
     with tempfile.NamedTemporaryFile(suffix=".pdf") as file:
         file.write(pdf)

@@ -2,6 +2,8 @@
 
 Usage: reading.py PROGRAM WORK. PROGRAM is gs1_hub. Its last line is the counts.
 """
+from __future__ import annotations
+
 import base64
 import json
 import os
@@ -11,52 +13,55 @@ import subprocess
 import sys
 import time
 import zlib
+from typing import Any, Callable, Iterable, Sequence
 
 from browser import Browser
 from comparisons import before_others, ended, same, texts
 
 ROOT = os.path.dirname(os.path.dirname(os.path.dirname(os.path.abspath(__file__))))
 PROGRAM, WORK = sys.argv[1:3]
+Frame = Callable[[int], bytes]
+"""The rows of a picture, by their numbers from the top."""
 GRID = "--columns 2 --rows 3 --module 2 --width 480 --height 120".split()
 TEXTS = texts()["en"]
 FRAME = 4
 """How many milliseconds a frame of the camera may take."""
 
 
-def answer(*words, text=b""):
+def answer(*words: str, text: bytes = b"") -> bytes:
     done = subprocess.run([PROGRAM, *words], input=text, stdout=subprocess.PIPE, stderr=subprocess.PIPE)
     return done.stdout if done.returncode == 0 else done.stderr
 
 
-def scanned(image, *words):
+def scanned(image: bytes, *words: str) -> list[str]:
     """What `scan` says of an image, without lanes and numbers."""
     lines = answer("scan", *words, *"--workers 1 --year 2026".split(), text=image).decode().splitlines()
     return sorted(line.split(" ", 2)[2] for line in lines)
 
 
-def shown(page):
+def shown(page: Browser) -> str:
     """What the newest picture says: its line, or how many it has, or its error."""
     return page.value("pictures[0].refused ?? (pictures[0].symbols.length === 1 ? pictures[0].symbols[0].line : `${pictures[0].symbols.length} symbols`)")
 
 
-def choose(page, path):
+def choose(page: Browser, path: str) -> None:
     """Chooses a file instead of all earlier ones."""
     page.value("at('read-clear').click()")
     page.choose(path)
 
 
-def answers(page):
+def answers(page: Browser) -> list[str]:
     return [symbol["line"] for symbol in json.loads(page.value("JSON.stringify(pictures[0]?.symbols ?? [])"))]
 
 
-def said(number):
-    text = TEXTS["faults"][str(number)]
+def said(key: int | str) -> str:
+    text = TEXTS["faults"][str(key)]
     return f"{text[0].upper()}{text[1:]}."
 
 
-def png(path, width, height, row_of):
+def png(path: str, width: int, height: int, row_of: Callable[[int], bytes]) -> None:
     """Writes a grey picture, row by row."""
-    def chunk(name, data):
+    def chunk(name: bytes, data: bytes) -> bytes:
         return struct.pack(">I", len(data)) + name + data + struct.pack(">I", zlib.crc32(name + data))
 
     packer = zlib.compressobj(1)
@@ -66,7 +71,7 @@ def png(path, width, height, row_of):
                    + chunk(b"IDAT", rows) + chunk(b"IEND", b""))
 
 
-def gif(*frames):
+def gif(*frames: Sequence[bytes]) -> bytes:
     """An animated GIF of black and white frames: codes of a dot each, cleared before the table grows."""
     width, height = len(frames[0][0]), len(frames[0])
     data = b"GIF89a" + struct.pack("<HHBBB", width, height, 0x80, 0, 0) + b"\0\0\0\xff\xff\xff"
@@ -83,7 +88,7 @@ def gif(*frames):
     return data + b";"
 
 
-def films(path, frames):
+def films(path: str, frames: Sequence[Frame]) -> None:
     """Writes a film of 640 by 480 dots for the browser's fake camera, each frame a function of its rows."""
     with open(path, "wb") as file:
         file.write(b"YUV4MPEG2 W640 H480 F10:1 Ip A1:1 C420jpeg\n")
@@ -91,13 +96,13 @@ def films(path, frames):
             file.write(b"FRAME\n" + b"".join(row_of(y) for y in range(480)) + b"\x80" * (640 * 480 // 2))
 
 
-def symbol_row(dots, last="1 4 1 1"):
+def symbol_row(dots: int, last: str = "1 4 1 1") -> list[int]:
     """9501101530003 as an EAN-13 in its quiet zones, or with another last digit, 1 where light."""
     widths = "11 1 1 1 1 2 3 1 1 1 2 3 1 2 2 2 2 2 2 1 1 1 2 3 2 2 2 1 1 1 1 1 1 1 2 3 1 1 4 1 1 3 2 1 1 3 2 1 1 3 2 1 1 " + last + " 1 1 1 7"
     return [light for i, width in enumerate(widths.split()) for light in [1 - i % 2] * (int(width) * dots)]
 
 
-def reads(page):
+def reads(page: Browser) -> None:
     """The pictures of the examples, dropped, pasted and of the clipboard, and what is no picture or has no symbol."""
     with open(f"{ROOT}/examples/labels.pbm", "rb") as file:
         wanted = scanned(file.read(), *GRID)
@@ -152,7 +157,7 @@ def reads(page):
         same(f"the picture before {name}", answers(page), before)
 
 
-def refuses(page):
+def refuses(page: Browser) -> None:
     """Pictures without a symbol, each with what to do; and symbols in other grey values, borders and colours."""
     png(f"{WORK}/one.png", 1, 1, lambda y: b"\0")
     choose(page, f"{WORK}/one.png")
@@ -221,7 +226,7 @@ def refuses(page):
     same("the order of reading", places, f"22 10,{22 + len(row)} 0,22 120")
 
 
-def takes_the_last(page):
+def takes_the_last(page: Browser) -> None:
     """A picture that takes longer than one that is taken after it; and many at once, shown as a table, the older ones without their picture."""
     choose(page, f"{ROOT}/examples/labels.png")
     page.value("""(() => {
@@ -244,24 +249,24 @@ def takes_the_last(page):
     page.value("at('view-cards').click(), at('read-clear').click()")
 
 
-def row_of(text, module=4):
+def row_of(text: str, module: int = 4) -> list[int]:
     """The row of a label that the program draws: 1 where it is light."""
     image = answer("print", *f"--columns 1 --rows 1 --module {module} --width 520 --height 40 --year 2026".split(), text=text.encode() + b"\n")
     dots = image[-65 * 20:-65 * 19]
     return [1 - (byte >> bit & 1) for byte in dots for bit in range(7, -1, -1)]
 
 
-def frame_of(row):
+def frame_of(row: Iterable[int]) -> Frame:
     """A frame of 640 by 480 in which a label stands a little aslant, so no two rows are the same."""
     line = (b"\xe0" * 60 + bytes(40 + 180 * light for light in row) + b"\xe0" * 640)[:640]
     return lambda y: (line[-(y // 16):] + line[:-(y // 16)]) if 100 < y < 380 else b"\xe0" * 640
 
 
-def blank(_):
+def blank(_: int) -> bytes:
     return b"\xe0" * 640
 
 
-def reads_by_camera(url):
+def reads_by_camera(url: str) -> None:
     """The browser's fake camera shows nothing, and then one label after another; a camera that is refused, that goes away, and none."""
     codes = ["ean13,9501101530003", "ean8,96385074", "upca,012345000065"]
     frames = [blank] * 5 + [frame for code in codes for frame in [frame_of(row_of(code))] * 14 + [blank] * 4]
@@ -314,16 +319,16 @@ def reads_by_camera(url):
         without.close()
 
 
-def quickest(page, limit):
+def quickest(page: Browser, limit: float) -> float:
     """The milliseconds of the quickest of at least five tries to read the picture, and of more where other work on the machine
     takes longer than the limit."""
-    times = []
+    times: list[float] = []
     while len(times) < 5 or (min(times) >= limit and len(times) < (30 if limit > 100 else 200)):
         times.append(page.value("readPicture(pictures[0]), pictures[0].passed"))
     return min(times)
 
 
-def counts_symbols(page):
+def counts_symbols(page: Browser) -> None:
     """The same label again and again, sheet by sheet; rows that are damaged; single rows; and noise."""
     sheet = "--module 2 --width 300 --height 40 --columns 2 --rows 3".split()
     image = answer("print", *sheet, "--year", "2026", text=b"ean13,9501101530003\n" * 8 + b"ean8,96385074\n" * 3)
@@ -342,10 +347,11 @@ def counts_symbols(page):
     choose(page, f"{WORK}/streaks.png")
     same("a symbol with streaks", [(s["line"], s["corners"][0]["y"], s["corners"][2]["y"], s["rows"]) for s in json.loads(page.value("JSON.stringify(pictures[0].symbols)"))],
          [("]E0 (01)09501101530003", 0, 58, 42)])
-    for height, wanted in ((1, ["]E0 (01)09501101530003"]), (9, [])):
+    lines: Any
+    for height, lines in ((1, ["]E0 (01)09501101530003"]), (9, [])):
         png(f"{WORK}/single-{height}.png", len(row), height, lambda y: light if y == height // 2 else b"\xff" * len(row))
         choose(page, f"{WORK}/single-{height}.png")
-        same(f"a symbol in one of {height} rows", answers(page), wanted)
+        same(f"a symbol in one of {height} rows", answers(page), lines)
 
     noise = random.Random(7)
     png(f"{WORK}/noise.png", 1000, 750, lambda y: bytes(noise.choices((0, 255), k=1000)))
@@ -358,7 +364,7 @@ def counts_symbols(page):
     same("thin stripes in two seconds", quickest(page, 2000) < 2000, True)
 
 
-def large(page):
+def large(page: Browser) -> None:
     """Large pictures, and the time for them."""
     row = symbol_row(3)
     line = bytearray(b"\xff" * 4000)
@@ -381,7 +387,7 @@ def large(page):
     same("the symbols of 8,000 by 8,000", answers(page), ["]E0 (01)09501101530003"] * 8)
 
 
-def photograph(page):
+def photograph(page: Browser) -> None:
     """A photograph of 4,000 by 3,000: the label is turned, the light falls, and there is a grain."""
     page.value("""(async () => {
         const canvas = new OffscreenCanvas(4000, 3000), pen = canvas.getContext('2d');
@@ -411,7 +417,7 @@ def photograph(page):
     same("a photograph of 4,000 by 3,000 in a second", passed < 1000, True)
 
 
-def reads_odd_pictures(page):
+def reads_odd_pictures(page: Browser) -> None:
     """Pictures that are transparent, animated, of 16 bits a channel: the symbol is read in each."""
     row = symbol_row(2)
     line = bytes(255 * light for light in row)
@@ -429,7 +435,7 @@ def reads_odd_pictures(page):
     same("an animated picture, its first frame", answers(page), ["]E0 (01)09501101530003"])
 
 
-def main():
+def main() -> bool:
     url = f"file://{ROOT}/page/index.html"
     page = Browser(f"{url}#read")
     try:

@@ -3,6 +3,8 @@
 Usage: same_lists.py COUNT. Makes this many lists, most of them damaged, takes those of tests/labels and 1,000 that its generator
 damages, asks both, and prints what differs. Some are asked in German, too. Its last line is the counts.
 """
+from __future__ import annotations
+
 import base64
 import csv
 import glob
@@ -13,6 +15,7 @@ import random
 import re
 import subprocess
 import sys
+from typing import Any, Iterable, Iterator, Sequence
 
 ROOT = os.path.dirname(os.path.dirname(os.path.dirname(os.path.abspath(__file__))))
 LISTS = os.path.join(ROOT, "tests", "labels")
@@ -49,7 +52,7 @@ PIECES = ['"', ";", ",", "\t", "\r", "\n", "(01)", "^", "ü", "u\u0308", "9" * 3
           "]E0", "[10]", "https://", "\x1f", "sep=;\n", "gtin", "\0", "\ufeff", "ß", "ł", "²", "\u2007"]
 
 
-def listed(chance):
+def listed(chance: random.Random) -> str:
     """A list as people may have one, with or without a heading, in one of the ways that it is saved."""
     delimiter, end = chance.choice([";", "\t", ",", ";"]), chance.choice(["\n", "\r\n", "\n", "\r"])
     columns = chance.choice([[0], [0, 1], [0, 1, 2], [1, 0, 2], [0, 1, 2, 3], [0, 1, 2, 3, 4, 5], [2, 1, 0], [0, 0, 1], [0, 1, 2, 2], [0, 1, 2, 6, 7, 8], [0, 2, 11, 9, 10], [0, 2, 11, 7, 6], [0, 2, 6, 6]])
@@ -60,13 +63,13 @@ def listed(chance):
     if chance.random() < 0.1:
         rows.insert(0, ["Preisliste"] + [""] * (len(columns) - 1))
 
-    def quoted(cell):
+    def quoted(cell: str) -> str:
         return '"' + cell.replace('"', '""') + '"' if set(cell) & {delimiter, '"', "\n", "\r"} or chance.random() < 0.1 else cell
     text = "".join(delimiter.join(map(quoted, row)) + end for row in rows)
     return f"sep={delimiter}{end}{text}" if chance.random() < 0.05 else text
 
 
-def made(count):
+def made(count: int) -> Iterator[bytes]:
     chance = random.Random(11)
     for number in range(count):
         text = listed(chance)
@@ -81,13 +84,13 @@ def made(count):
         yield chance.choice([b"PK\x03\x04", b"%PDF-", b"\x89PNG", b"\x1f\x8b"]) + data if number % 500 == 7 else data
 
 
-def long_lists():
+def long_lists() -> Iterator[bytes]:
     """Lists whose errors have numbers above a thousand: of cells, and of a line."""
     yield b"EAN;Name\n4012345010008" + b";x" * 1_200 + b"\n"
     yield b"EAN;Name\n4012345010008;x\n" + b";y\n" * 1_200 + b"4012345010008;z\n"
 
 
-def of_shops():
+def of_shops() -> Iterator[bytes]:
     """The lists of tests/labels, and 1,000 that its generator damages."""
     for path in sorted(glob.glob(f"{LISTS}/lists/*") + glob.glob(f"{LISTS}/saved/ways/*.csv")):
         with open(path, "rb") as file:
@@ -105,7 +108,7 @@ def of_shops():
         yield damaged(92, number).saved()
 
 
-def by_python(data):
+def by_python(data: bytes) -> dict[str, Any]:
     """The command's answer in the page's form, without its options; and what `check --fix` corrects."""
     fixes, unused, passed, opened = [], [], [], []
     try:
@@ -124,7 +127,7 @@ def by_python(data):
     return {"articles": told, "faults": [[it.line, plainly(it.said)] for it in faults], "fixes": fixes, "unused": unused, "passed": passed, "opened": opened}
 
 
-def is_unreadable(text):
+def is_unreadable(text: str) -> bool:
     """Whether the page has advice for a cell: it is no number, and no element string with separators."""
     try:
         read_text(text, 2026)
@@ -133,17 +136,17 @@ def is_unreadable(text):
     return False
 
 
-def plainly(said):
+def plainly(said: str) -> str:
     """An error without the command's options."""
     return re.sub(r", (as in|etwa mit) --(column|no-price|encoding) ?.*|: noriladle read (takes it|liest sie)$| \(--free\)$", "", said, flags=re.DOTALL)
 
 
-def lines_of(lists):
+def lines_of(lists: Iterable[bytes]) -> bytes:
     """The lists as lists_in_node.js takes them."""
     return b"".join(base64.b64encode(it) + b"\n" for it in lists)
 
 
-def differing(lists, language):
+def differing(lists: Sequence[bytes], language: str) -> tuple[int, int, int]:
     """How many lists the page and the command answer in different words of a language, and how many articles and errors they have."""
     told = subprocess.run(["node", f"{ROOT}/tests/page/lists_in_node.js", language], input=lines_of(lists), stdout=subprocess.PIPE, check=True).stdout.decode().split("\n")[:-1]
     differ = abs(len(lists) - len(told))
@@ -159,7 +162,7 @@ def differing(lists, language):
     return differ, good, faulty
 
 
-def main():
+def main() -> bool:
     shops, others = list(of_shops()), [*long_lists(), *made(int(sys.argv[1]))]
     lists, in_german = shops + others, shops + others[:GERMAN]
     (differ, good, faulty), (other, _, _) = differing(lists, "en"), differing(in_german, "de")

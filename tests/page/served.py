@@ -3,11 +3,14 @@ and on this machine; in headless Chromium and Firefox. The list is kept, scans b
 
 Usage: served.py PROGRAM WORK. PROGRAM is gs1_hub. Its last line is the counts.
 """
+from __future__ import annotations
+
 import os
 import signal
 import subprocess
 import sys
 import time
+from typing import Any
 
 from browser import Browser
 from comparisons import ended, same
@@ -26,14 +29,14 @@ KEPT = "navigator.serviceWorker.ready.then(() => new Promise((done) => setTimeou
 class Served:
     """The command, with its addresses on this machine and in the local network, and what it says."""
 
-    def __init__(self):
+    def __init__(self) -> None:
         self.told = open(f"{WORK}/told", "w+", encoding="utf-8")
         env = {**os.environ, "XDG_CACHE_HOME": f"{WORK}/cache", "XDG_DATA_HOME": f"{WORK}/data"}
         self._process = subprocess.Popen([f"{ROOT}/noriladle", "page", "--share", "--address", SHARED, "--port", "0"], env=env,
                                          stdout=subprocess.PIPE, stderr=self.told, text=True)
         self.here, self.shared = (self._process.stdout.readline().strip() for _ in range(2))
 
-    def says(self, words):
+    def says(self, words: str) -> bool:
         """Whether it says this within some seconds."""
         for _ in range(100):
             self.told.seek(0)
@@ -42,12 +45,12 @@ class Served:
             time.sleep(0.1)
         return False
 
-    def close(self):
+    def close(self) -> int:
         self._process.send_signal(signal.SIGINT)
         return self._process.wait(30)
 
 
-def scans(page):
+def scans(page: Browser) -> None:
     """Scans with the camera, one code after another, and makes labels of them."""
     page.click("#tab-read")
     page.value("at('scan-on').checked || at('scan-on').click(), at('camera').click()")
@@ -58,7 +61,7 @@ def scans(page):
     page.value("document.made")
 
 
-def on_a_telephone(served):
+def on_a_telephone(served: Served) -> None:
     """The browser refuses the certificate until the person goes on. Then the camera works, and scans become labels."""
     films(f"{WORK}/walk.y4m", [blank] * 5 + [frame for code in ("ean13,9501101530003", "ean8,96385074", "upca,012345000065")
                                              for frame in [frame_of(row_of(code))] * 14 + [blank] * 4])
@@ -100,7 +103,7 @@ def on_a_telephone(served):
         page.close()
 
 
-def in_firefox(served):
+def in_firefox(served: Served) -> None:
     """The page over https, and the list that it keeps."""
     page = Firefox(served.shared, insecure=True)
     try:
@@ -112,10 +115,11 @@ def in_firefox(served):
         page.close()
 
 
-def here(served):
+def here(served: Served) -> None:
     """On this machine the page opens with its list after the command has ended."""
     chromium, firefox = Browser(served.here), Firefox(served.here)
     try:
+        page: Any
         for page in (chromium, firefox):
             page.fill("#list", LIST)
             page.until(f"{LABELS} === '3 labels on 1 sheet'")
@@ -131,7 +135,7 @@ def here(served):
         firefox.close()
 
 
-def main():
+def main() -> bool:
     served = Served()
     same("its addresses", (served.here.startswith("http://127.0.0.1:"), served.shared.startswith(f"https://{SHARED}:")), (True, True))
     try:

@@ -2,6 +2,8 @@
 
 Usage: tasks.py WORK. Other programs read back the printed and saved labels. Its last line is the counts.
 """
+from __future__ import annotations
+
 import csv
 import io
 import json
@@ -9,6 +11,7 @@ import os
 import re
 import sys
 import time
+from typing import Any, Sequence
 
 from browser import Browser
 from comparisons import ended, same, texts
@@ -22,7 +25,7 @@ TEXTS = texts()
 COUNT = 20
 
 
-def filled(text, *values):
+def filled(text: str, *values: object) -> str:
     for i, value in enumerate(values):
         text = text.replace(f"{{{i}}}", str(value))
     return text
@@ -31,23 +34,23 @@ def filled(text, *values):
 class Person:
     """A person who does the tasks in a browser, and reads its answers in a language."""
 
-    def __init__(self, browser, name, language):
+    def __init__(self, browser: Browser | Firefox, name: str, language: str) -> None:
         self.browser, self.name, self.language, self.folder = browser, name, language, os.path.join(WORK, re.sub(r"\W+", "-", name))
         os.makedirs(self.folder, exist_ok=True)
         browser.downloads(self.folder)
         self.browser.click(f"#languages [lang={language}]")
 
-    def same(self, what, got, wanted):
+    def same(self, what: str, got: object, wanted: object) -> None:
         same(f"{self.name}: {what}", got, wanted)
 
-    def page(self, key, *values):
+    def page(self, key: str, *values: object) -> str:
         return filled(TEXTS[self.language]["page"][key], *values)
 
-    def fault(self, key, *values):
+    def fault(self, key: str, *values: object) -> str:
         text = filled(TEXTS[self.language]["faults"][key], *values)
         return text[0].upper() + text[1:] + "."
 
-    def waits(self, what, name, wanted, seconds=60):
+    def waits(self, what: str, name: str, wanted: str, seconds: float = 60) -> None:
         """Waits until an element says something, and compares what it says in the end."""
         limit = time.time() + seconds
         while True:
@@ -56,7 +59,7 @@ class Person:
                 return self.same(what, said, wanted)
             time.sleep(0.1)
 
-    def saved(self, button, name):
+    def saved(self, button: str, name: str) -> str:
         """What a button saves. Removes the file."""
         path = os.path.join(self.folder, name)
         self.browser.click(button)
@@ -71,7 +74,7 @@ class Person:
         os.rename(path, kept)
         return kept
 
-    def chooses(self, name, value):
+    def chooses(self, name: str, value: str) -> None:
         """Chooses an entry of a list."""
         self.browser.value(f"""(() => {{
             const list = document.getElementById({json.dumps(name)});
@@ -80,7 +83,7 @@ class Person:
         }})()""")
 
 
-def labels(person, stocks):
+def labels(person: Person, stocks: Sequence[str]) -> None:
     """A list with errors: the page reports them, the person corrects them, and prints, saves and reads back the sheets."""
     browser, made = person.browser, articles(COUNT)
     right, wrong = made[3][0], made[3][0][:-1] + str((int(made[3][0][-1]) + 1) % 10)
@@ -125,7 +128,7 @@ def labels(person, stocks):
     person.chooses("dpi", "0")
 
 
-def checks(person):
+def checks(person: Person) -> None:
     """A code of a box, a Digital Link and a list: what each says, as it is shown and as it is saved."""
     browser, titles = person.browser, TEXTS[person.language]["elements"]
     browser.click("#tab-check")
@@ -153,7 +156,7 @@ def checks(person):
     person.waits("a number that was put right", "check-told", f"{person.page('rightCount', 4)} · {person.page('wrongCount', 2)}")
 
 
-def reads(person, pictures):
+def reads(person: Person, pictures: Sequence[str]) -> None:
     """Several pictures at once, one of them no picture: as cards, as a table and as a file."""
     browser = person.browser
     browser.click("#tab-read")
@@ -170,7 +173,7 @@ def reads(person, pictures):
     browser.click("#view-cards")
 
 
-def keyboard(person):
+def keyboard(person: Person) -> None:
     """The task "check" by keys alone; the focus ring is always visible."""
     browser = person.browser
     browser.value("document.activeElement.blur(), scrollTo(0, 0)")
@@ -194,7 +197,7 @@ def keyboard(person):
     person.waits("a number that is typed", "check-told", person.page("rightCount1"))
 
 
-def scanner(browser, person):
+def scanner(browser: Browser, person: Person) -> None:
     """A scanner that types: its newest answer comes first, and the field keeps its order."""
     browser.click("#tab-check")
     browser.click("#check-clear") if browser.value("!document.getElementById('check-clear').hidden") else None
@@ -219,10 +222,11 @@ def scanner(browser, person):
     person.same("the switch that a person does not turn on", browser.value("document.getElementById('scans').checked"), False)
 
 
-def main():
+def main() -> bool:
     made = articles(COUNT)
     with open(f"{WORK}/words.txt", "w", encoding="utf-8") as file:
         file.write("no picture\n")
+    size: Any
     chromium = [("Chromium, desk, English", "en", {"width": 1280, "height": 900}, list(STOCKS)), ("Chromium, telephone, German", "de", {"width": 390, "height": 844, "mobile": True}, ["57x32"])]
     firefox = [("Firefox, desk, German", "de", {"width": 1280, "height": 900}, list(STOCKS)), ("Firefox, telephone, English", "en", {"width": 450, "height": 844}, ["3474"])]
     sheet = None
@@ -230,7 +234,7 @@ def main():
         begun, is_firefox = time.time(), (name, language, size, stocks) in firefox
         folder = os.path.join(WORK, re.sub(r"\W+", "-", name))
         os.makedirs(folder, exist_ok=True)
-        browser = Firefox(URL, folder=folder, **size) if is_firefox else Browser(URL, **size)
+        browser: Any = Firefox(URL, folder=folder, **size) if is_firefox else Browser(URL, **size)
         try:
             person = Person(browser, name, language)
             labels(person, stocks)
