@@ -8,17 +8,17 @@ import sys
 from rows import check_digit, digits
 
 
-def gtin(random, count):
+def gtin(random: random.Random, count: int) -> str:
     text = digits(random, count - 1)
     return text + check_digit(text)
 
 
-def upce(random):
+def upce(random: random.Random) -> str:
     text = "0" + digits(random, 5) + "0000" + random.choice("56789")
     return text + check_digit(text)
 
 
-def elements(random):
+def elements(random: random.Random) -> str:
     batch = "".join(random.choice("ABCDEFGHJKLMNPQRSTUVWXYZ") for _ in range(random.randint(1, 8)))
     return "01" + gtin(random, 14) + "10" + batch
 
@@ -32,7 +32,7 @@ KINDS = (
 )
 
 
-def main():
+def main() -> None:
     count, seed = map(int, sys.argv[1:])
     rng = random.Random(seed)
     for i in range(count):

@@ -15,20 +15,20 @@ LABELS = [("ean13", "9501101530003"), ("gs1128", "10AB\x1d17261231"), ("itf14", 
 TURN = {"resample": Image.Resampling.BICUBIC, "fillcolor": 255}
 
 
-def label(kind, text):
+def label(kind: str, text: str) -> Image.Image:
     """A label of 480 by 200 dots, with modules of 2 dots."""
     bits = numpy.frombuffer(noriladle.draw_label(kind, text, 2026, height=200), numpy.uint8, offset=len(b"P4\n480 200\n"))
     return Image.fromarray(255 - 255 * numpy.unpackbits(bits).reshape(200, 480))
 
 
-def sheet():
+def sheet() -> Image.Image:
     image = Image.new("L", (1600, 1200), 255)
     for i, (kind, text) in enumerate(LABELS):
         image.paste(label(kind, text), (150 + i % 2 * 800, 200 + i // 2 * 500))
     return image
 
 
-def photograph(chance):
+def photograph(chance: numpy.random.RandomState) -> numpy.ndarray:
     """One label, turned, blurred, with light from one side and noise."""
     image = Image.new("L", (1600, 1200), 255)
     image.paste(label(*LABELS[0]), (550, 500))
@@ -36,7 +36,7 @@ def photograph(chance):
     return numpy.clip(seen * numpy.linspace(1, 0.4, 1600) + chance.normal(0, 6, seen.shape), 0, 255).astype(numpy.uint8)
 
 
-def four_ways(stripes, chance):
+def four_ways(stripes: numpy.ndarray, chance: numpy.random.RandomState) -> numpy.ndarray:
     """Squares of 128 dots with stripes in one of four directions: as many as read_picture tries."""
     whole = Image.fromarray(numpy.tile(stripes, (2, 2)))
     turned = numpy.stack([numpy.asarray(whole.rotate(angle, **TURN))[600:1800, 800:2400] for angle in (10, 55, 100, 145)])
@@ -44,7 +44,7 @@ def four_ways(stripes, chance):
     return numpy.take_along_axis(turned, way[None], axis=0)[0]
 
 
-def main():
+def main() -> None:
     chance = numpy.random.RandomState(7)
     stripes = numpy.repeat(chance.randint(0, 2, (40, 1600)) * 200, 30, axis=0).astype(numpy.uint8)
     pictures = {

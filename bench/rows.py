@@ -4,8 +4,11 @@ Usage: rows.py COUNT LANES SEED [long | itf14]. The symbols are EAN-13, EAN-8, U
 the longest GS1-128 symbols, of 595 runs, and with `itf14` only ITF-14. They are read in both directions, at 1 to 4 dots a
 module, and one in ten is damaged: a run made wider or dropped, a light end too small, or a character changed.
 """
+from __future__ import annotations
+
 import random
 import sys
+from typing import Callable
 
 # ISO/IEC 15420: number set A, and the number sets by first digit or check digit.
 SET_A = "3211 2221 2122 1411 1132 1231 1114 1312 1213 3112".split()
@@ -30,56 +33,56 @@ CODE128 = """
 START_B, START_C, FNC1, STOP = 104, 105, 102, "2331112"
 
 
-def check_digit(digits):
+def check_digit(digits: str) -> str:
     weights = (3, 1)
     total = sum(int(d) * weights[i % 2] for i, d in enumerate(reversed(digits)))
     return str(-total % 10)
 
 
-def digits(random, count):
+def digits(random: random.Random, count: int) -> str:
     return "".join(random.choice("0123456789") for _ in range(count))
 
 
-def left(row, text):
+def left(row: str, text: str) -> str:
     return "".join((SET_A if s == "A" else SET_B)[int(d)] for s, d in zip(row, text))
 
 
-def right(text):
+def right(text: str) -> str:
     return "".join(SET_A[int(d)] for d in text)
 
 
-def ean13(random):
+def ean13(random: random.Random) -> tuple[int, str, int]:
     text = digits(random, 12)
     text += check_digit(text)
     return 11, "111" + left(EAN13_ROWS[int(text[0])], text[1:7]) + "11111" + right(text[7:]) + "111", 7
 
 
-def ean8(random):
+def ean8(random: random.Random) -> tuple[int, str, int]:
     text = digits(random, 7)
     text += check_digit(text)
     return 7, "111" + left("AAAA", text[:4]) + "11111" + right(text[4:]) + "111", 7
 
 
-def upce(random):
+def upce(random: random.Random) -> tuple[int, str, int]:
     six = digits(random, 5) + random.choice("56789")
     check = check_digit("0" + six[:5] + "0000" + six[5])
     return 9, "111" + left(UPCE_ROWS[int(check)], six) + "111111", 7
 
 
-def itf14(random):
+def itf14(random: random.Random) -> tuple[int, str, int]:
     text = digits(random, 13)
     text += check_digit(text)
     pairs = (zip(TWO_OF_FIVE[int(a)], TWO_OF_FIVE[int(b)]) for a, b in zip(text[::2], text[1::2]))
     return 10, "1111" + "".join(bar + space for pair in pairs for bar, space in pair) + "311", 10
 
 
-def code128(random, start, values):
+def code128(random: random.Random, start: int, values: list[int]) -> tuple[int, str, int]:
     values = [FNC1] + values
     check = (start + sum(i * v for i, v in enumerate(values, 1))) % 103
     return 10, CODE128[start] + "".join(CODE128[v] for v in values + [check]) + STOP, 10
 
 
-def gtin_and_batch(random):
+def gtin_and_batch(random: random.Random) -> tuple[int, str, int]:
     text = digits(random, 13)
     text = "01" + text + check_digit(text)
     pairs = [int(text[i : i + 2]) for i in range(0, 16, 2)]
@@ -87,17 +90,17 @@ def gtin_and_batch(random):
     return code128(random, START_C, pairs + [10, 100] + batch)
 
 
-def origin(random):
+def origin(random: random.Random) -> tuple[int, str, int]:
     text = "422" + digits(random, 3)
     return code128(random, START_C, [int(text[i : i + 2]) for i in range(0, 6, 2)])
 
 
-def weight(random):
+def weight(random: random.Random) -> tuple[int, str, int]:
     text = "3103" + digits(random, 6)
     return code128(random, START_C, [int(text[i : i + 2]) for i in range(0, 10, 2)])
 
 
-def longest(random):
+def longest(random: random.Random) -> tuple[int, str, int]:
     pairs = lambda: [random.randrange(100) for _ in range(45)]
     return code128(random, START_C, [20, 11, 91] + pairs() + [FNC1, 92] + pairs())
 
@@ -106,7 +109,7 @@ ALONE = {"long": (longest,), "itf14": (itf14,)}
 SYMBOLS = (ean13, gtin_and_batch, ean8, origin, upce, ean13, weight, gtin_and_batch)
 
 
-def damaged(random, widths):
+def damaged(random: random.Random, widths: list[int]) -> list[int]:
     i = random.randrange(1, len(widths) - 1)
     harm = random.randrange(4)
     if harm == 0:
@@ -122,7 +125,7 @@ def damaged(random, widths):
     return widths
 
 
-def row(random, symbol):
+def row(random: random.Random, symbol: Callable[[random.Random], tuple[int, str, int]]) -> list[int]:
     quiet_left, modules, quiet_right = symbol(random)
     widths = [quiet_left] + [int(m) for m in modules] + [quiet_right]
     if random.random() < 0.5:
@@ -134,7 +137,7 @@ def row(random, symbol):
     return widths
 
 
-def main():
+def main() -> None:
     count, lanes, seed = map(int, sys.argv[1:4])
     symbols = ALONE[sys.argv[4]] if sys.argv[4:] else SYMBOLS
     rng = random.Random(seed)

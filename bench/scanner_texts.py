@@ -10,15 +10,15 @@ from labels import gtin
 from rows import check_digit, digits
 
 
-def lot(random):
+def lot(random: random.Random) -> str:
     return "".join(random.choice("ABCDEFGHJKLMNPQRSTUVWXYZ0123456789") for _ in range(random.randint(1, 12)))
 
 
-def day(random):
+def day(random: random.Random) -> str:
     return f"{random.randint(20, 60)}{random.randint(1, 12):02}{random.randint(0, 28):02}"
 
 
-def upce(random):
+def upce(random: random.Random) -> str:
     six = digits(random, 5) + random.choice("56789")
     return f"0{six}{check_digit(f'0{six[:5]}0000{six[5]}')}"
 
@@ -31,12 +31,12 @@ KINDS = [
 ]
 
 
-def damaged(random, text):
+def damaged(random: random.Random, text: str) -> str:
     place = random.choice([i for i, byte in enumerate(text) if byte.isdigit() and i > 2])
     return text[:place] + random.choice("0123456789") + text[place + 1 :]
 
 
-def main():
+def main() -> None:
     count, lanes, seed = map(int, sys.argv[1:4])
     chance = random.Random(seed)
     for number in range(count):

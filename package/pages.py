@@ -1,4 +1,6 @@
 """Makes manual pages and completions of a program's own help. All that they say of commands and options stands in `--help`."""
+from __future__ import annotations
+
 import os
 import re
 import subprocess
@@ -11,7 +13,7 @@ FILES = {"FILE", "TTF", "LIST", "PICTURE"}
 class Help:
     """The parts of a help: what it is about, its usage, its commands, arguments and options, and the text after these."""
 
-    def __init__(self, text):
+    def __init__(self, text: str) -> None:
         self.text = text
         blocks = text.rstrip("\n").split("\n\n")
         self.about = blocks[0]
@@ -24,24 +26,24 @@ class Help:
         if not self.options:
             sys.exit(f"a help of another form: {text}")
 
-    def takes_files(self):
+    def takes_files(self) -> bool:
         """Whether an argument is a file."""
         return any(name.strip("[].") in FILES for name, _ in self.arguments)
 
 
-def option(line):
+def option(line: str) -> tuple[list[str], str | None, str]:
     """An option of a help: its names, its value or none, and what is said of it."""
     names, value, about = re.match(r" +(-.*?)(?: <(\S+)>)?(?:  +(.*))?$", line).groups()
     return names.split(", "), value, about or ""
 
 
-def roff(text):
+def roff(text: str) -> str:
     """A text as roff prints it unchanged."""
     text = text.replace("\\", "\\e").replace("-", "\\-").replace("^", "\\(ha").replace("`", "\\(ga").replace("'", "\\(aq")
     return re.sub(r"^(?=[.'])", r"\\&", text, flags=re.MULTILINE)
 
 
-def told(lines):
+def told(lines: list[str]) -> list[str]:
     """Lines of the text after a help: sentences are filled, and lines that begin with two spaces stand as they are."""
     made, as_it_is, before = [], False, ""
     for line in lines:
@@ -55,7 +57,7 @@ def told(lines):
     return made + ([".fi", ".in"] if as_it_is else [])
 
 
-def manual(name, its, others, date, version):
+def manual(name: str, its: Help, others: list[str], date: str, version: str) -> str:
     """The manual page of the program or of a command."""
     made = [f'.TH {roff(name.upper())} 1 "{date}" "Noriladle {roff(version)}" "User commands"']
     made += [".SH NAME", f"{roff(name)} \\- {roff(its.about)}"]
@@ -76,7 +78,7 @@ def manual(name, its, others, date, version):
     return "\n".join(made) + "\n"
 
 
-def bash(name, hub, commands):
+def bash(name: str, hub: Help, commands: list[tuple[str, Help]]) -> str:
     """The completion for bash: commands, then the options that are not given yet; files if a file may stand there, and no
     word if another value does."""
     first = [it for it, _ in hub.commands] + [it for names, _, _ in hub.options for it in names]
@@ -119,11 +121,11 @@ def bash(name, hub, commands):
     return "\n".join([*made, "}", f"complete -F _{name} {name}"]) + "\n"
 
 
-def quoted(text):
+def quoted(text: str) -> str:
     return "'" + text.replace("'", "'\\''") + "'"
 
 
-def zsh_option(names, value, about):
+def zsh_option(names: list[str], value: str | None, about: str) -> str:
     """An option as `_arguments` takes it."""
     about = re.sub(r"([\[\]:])", r"\\\1", about)
     if value:
@@ -137,7 +139,7 @@ def zsh_option(names, value, about):
     return quoted(f"{names[0]}[{about}]")
 
 
-def zsh(name, hub, commands):
+def zsh(name: str, hub: Help, commands: list[tuple[str, Help]]) -> str:
     """The completion for zsh."""
     made = [f"#compdef {name}", f"# Completion of {name} for zsh, made of its help.", "", "local context state state_descr line", "typeset -A opt_args", ""]
     made.append("_arguments -C \\")
@@ -157,7 +159,7 @@ def zsh(name, hub, commands):
     return "\n".join(made) + "\n"
 
 
-def files_of(helps, date, version):
+def files_of(helps: dict[str, str], date: str, version: str) -> dict[str, str]:
     """The pages and completions of a program by their names, of its helps: first its own, then those of its commands."""
     (name, hub), *commands = ((name, Help(text)) for name, text in helps.items())
     pages = {name: hub, **{f"{name}-{it}": its for it, its in commands}}
@@ -165,9 +167,9 @@ def files_of(helps, date, version):
     return {**files, f"{name}.bash": bash(name, hub, commands), f"{name}.zsh": zsh(name, hub, commands)}
 
 
-def helps_of(program):
+def helps_of(program: str) -> dict[str, str]:
     """The helps of a program, by its name and those of its commands."""
-    def told(*words):
+    def told(*words: str) -> str:
         english = {**os.environ, "LC_ALL": "C.UTF-8"}
         return subprocess.run([program, *words, "--help"], stdout=subprocess.PIPE, check=True, text=True, env=english).stdout
     whole = told()

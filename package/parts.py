@@ -120,7 +120,7 @@ def npm_files() -> Files:
     npm, page = ROOT / "npm", ROOT / "page"
     own = {name: (npm / name).read_bytes() for name in ("index.js", "advice.js", "elements.js", "texts.js", "detector.js", "reader.js", "worker.js", "index.d.ts", "texts.d.ts", "detector.d.ts", "reader.d.ts",
                                                            "README.md")}
-    scripts = "".join((page / f"{name}.js").read_text("utf-8").replace('"use strict";\n', "", 1) for name in ("gs1", "picture", "ais", "values", "mending", "typed"))
+    scripts = "".join((page / f"{name}.js").read_text("utf-8").replace("// @ts-check\n", "", 1).replace('"use strict";\n', "", 1) for name in ("gs1", "picture", "ais", "values", "mending", "typed"))
     module, version = _constant("MODULE", file_of("wasm32/gs1_c.wasm")), f'"{VERSION} (sources {sum_of_sources()[:12]})"'
     return {**own, **licences(), **_texts_only(version), "remedies.js": remedies("js"),
             "package.json": (npm / "package.json").read_text("utf-8").replace("@VERSION@", VERSION).encode(),
@@ -134,7 +134,7 @@ def _texts_only(version: str) -> Files:
     script = runpy.run_path(str(ROOT / "tables" / "remedies"))
     rows = script["rows_of"]((ROOT / "tables" / "remedies.tsv").read_text("utf-8"))
     faults = {row.number: row.name for row in script["firsts"](rows) if row.number in (*range(1, 12), 40, 42)}
-    symbols = re.search(r"static symbols = (\[.*\]);", (ROOT / "page" / "gs1.js").read_text("utf-8"))
+    symbols = re.search(r"static symbols = (\[[^]]*\]);", (ROOT / "page" / "gs1.js").read_text("utf-8"))
     assert symbols
     module = _constant("MODULE", gzipped(file_of("wasm32/gs1_texts.wasm")))
     return {"texts.module.js": f"// What texts need of the module, packed by gzip. Made by npm/build.\nexport {module}export const VERSION = {version};\n"
@@ -143,8 +143,8 @@ def _texts_only(version: str) -> Files:
 
 _NPM_EXPORT = """\
 export {
-  AIS, Gs1, countriesOf, currencyOf, greyOf, gtinOf, numberOf, paddedGtin, placeOf, remedyAlone,
-  isGtin, readText, remedyOfDigits, remedyOfEither, remedyOfIdentified, remedyOfString, remedyOfTyped, stripped, symbolsShown, unitOf, usualRemedy,
+  AIS, Gs1, RawAnswer, countriesOf, currencyOf, greyOf, gtinOf, numberOf, paddedGtin, placeOf, remedyAlone,
+  isGtin, remedyOfDigits, remedyOfEither, remedyOfIdentified, remedyOfString, remedyOfTyped, stripped, symbolsShown, unitOf, usualRemedy,
   writtenOtherwise,
 };
 

@@ -10,6 +10,7 @@ import json
 import os
 import platform
 import sys
+from functools import partial
 from pathlib import Path
 from typing import Any, Dict, List, NoReturn, Sequence
 
@@ -59,7 +60,7 @@ def put_links(folder: Path, names: Sequence[str]) -> None:
         path, to = folder / name, str(MODULE / name)
         path.parent.mkdir(parents=True, exist_ok=True)
         if not path.is_symlink() or os.readlink(path) != to:
-            put(path, lambda new, to=to: os.symlink(to, new))
+            put(path, partial(os.symlink, to))
     for path in folder.rglob("*"):
         # Another start may be about to put what begins with a dot in its place.
         if path.is_symlink() and not path.name.startswith(".") and str(path.relative_to(folder)) not in names:
@@ -72,7 +73,8 @@ def prepare(place: Path) -> bool:
     :raises OSError: the folder cannot be written.
     """
     release, before = ROOT / "release" / "MANIFEST", read_record(place)
-    now = {"root": str(ROOT), "files": own_names(),
+    names = own_names()
+    now = {"root": str(ROOT), "files": names,
            "looked": looked(ROOT / "shop", ROOT / "tables", *([release] if release.exists() else []))}
     if {key: before.get(key) for key in now} == now:
         return bool(before["same"])
@@ -82,7 +84,7 @@ def prepare(place: Path) -> bool:
     try:
         folder, same = place / "noriladle", is_current()
         folder.mkdir(parents=True, exist_ok=True)
-        put_links(folder, now["files"])
+        put_links(folder, names)
         put_files(folder, module_made(platform.machine(), unpacked))
     except NoFile as error:
         fail(str(error))

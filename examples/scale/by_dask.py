@@ -10,6 +10,8 @@ file that is refused has such a line on standard error, and the status is 1; the
 
 The program is $GS1_HUB, or ./gs1_hub. Needs apt-get install python3-distributed
 """
+from __future__ import annotations
+
 import os
 import pathlib
 import subprocess
@@ -18,7 +20,7 @@ import sys
 from distributed import Client, LocalCluster
 
 
-def answer(program, lanes, year, path):
+def answer(program: str, lanes: str, year: str, path: str) -> tuple[int, bytes, bytes]:
     """The program's answers to a file of lanes, and its error."""
     with open(path, "rb") as rows:
         ran = subprocess.run([program, "lanes", "--lanes", lanes, "--workers", "1", "--year", year],
@@ -26,13 +28,13 @@ def answer(program, lanes, year, path):
     return ran.returncode, ran.stdout, ran.stderr
 
 
-def tagged(path, lines):
+def tagged(path: pathlib.Path, lines: bytes) -> bytes:
     """The lines, each after the file's name without its ending and a tab."""
     tag = path.stem.encode() + b"\t"
     return b"".join(tag + line for line in lines.splitlines(keepends=True))
 
 
-def report(client, program, lanes, year, paths):
+def report(client: Client, program: str, lanes: str, year: str, paths: list[pathlib.Path]) -> bool:
     """Writes the report of the files, and says whether all were answered."""
     tasks = [client.submit(answer, program, lanes, year, str(path), pure=False) for path in paths]
     taken = True
@@ -43,7 +45,7 @@ def report(client, program, lanes, year, paths):
     return taken
 
 
-def main():
+def main() -> None:
     lanes, year, folder = sys.argv[1:4]
     program = os.path.abspath(os.environ.get("GS1_HUB", "./gs1_hub"))
     paths = sorted(pathlib.Path(folder).resolve().glob("*.csv"))

@@ -7,11 +7,12 @@ its customer may have gone.
 import socket
 import sys
 import time
+from typing import Iterator
 
 SILENCE = 8  # The gateway sends a line each 5 seconds. Without one for so long it has gone.
 
 
-def connect(address):
+def connect(address: str) -> socket.socket:
     """A connection to a UNIX socket, or to HOST:PORT."""
     host, _, port = address.rpartition(":")
     if host and port.isdecimal():
@@ -22,7 +23,7 @@ def connect(address):
     return gateway
 
 
-def lines(address, lane):
+def lines(address: str, lane: str) -> Iterator[str]:
     """The lines of the gateway, for ever: connects again whenever the connection ends. A blank line says that it was silent."""
     while True:
         try:
@@ -36,7 +37,7 @@ def lines(address, lane):
         time.sleep(0.1)
 
 
-def main(address, lane, most="5"):
+def main(address: str, lane: str, most: str = "5") -> None:
     next_number = series = None
     for line in lines(address, lane):
         number, _, rest = line.partition(" ")

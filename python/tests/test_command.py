@@ -1,10 +1,13 @@
 """The command ``noriladle``: its table of subcommands, its help, and what it says of wrong words."""
+from __future__ import annotations
+
 import argparse
 import os
 import re
 import subprocess
 import sys
 from pathlib import Path
+from typing import NoReturn
 
 import pytest
 
@@ -17,14 +20,14 @@ from noriladle.commands import WrongWords
 PATHS = {**os.environ, "PYTHONPATH": os.pathsep.join(sys.path)}
 
 
-def told(words, capsys):
+def told(words: list[str], capsys: pytest.CaptureFixture[str]) -> tuple[int, str, str]:
     """The status of a command, and what it wrote on standard output and on standard error."""
     status = main(words)
     out, err = capsys.readouterr()
     return status, out, err
 
 
-def test_without_a_word_it_prints_its_help(capsys):
+def test_without_a_word_it_prints_its_help(capsys: pytest.CaptureFixture[str]) -> None:
     status, out, err = told([], capsys)
     assert (status, out) == (2, "")
     assert told(["--help"], capsys) == (0, err, "")
@@ -32,7 +35,7 @@ def test_without_a_word_it_prints_its_help(capsys):
         assert f"  {it.name} " in err and it.help in err
 
 
-def test_version(capsys):
+def test_version(capsys: pytest.CaptureFixture[str]) -> None:
     assert told(["--version"], capsys) == (0, f"noriladle {__version__} (sources {_sources()})\n", "")
 
 
@@ -46,12 +49,12 @@ def test_version(capsys):
     (["read", "a.png", "--year", "1950"],
      "noriladle read: argument --year: '1950' is no year from 1951 to 2149; see noriladle read --help\n"),
 ])
-def test_wrong_words(words, said, capsys):
+def test_wrong_words(words: list[str], said: str, capsys: pytest.CaptureFixture[str]) -> None:
     assert told(words, capsys) == (2, "", said)
 
 
 @pytest.mark.parametrize("name", [it.name for it in COMMANDS])
-def test_help_of_each_command(name, capsys):
+def test_help_of_each_command(name: str, capsys: pytest.CaptureFixture[str]) -> None:
     status, out, err = told([name, "--help"], capsys)
     assert (status, err) == (0, "")
     assert f"Usage: noriladle {name}" in out and "\n  $ noriladle " in out
@@ -68,14 +71,15 @@ def test_help_of_each_command(name, capsys):
     (SystemExit(2), 2, ""),
     (SystemExit(None), 0, ""),
 ])
-def test_what_a_command_raises(raised, status, said, capsys, monkeypatch):
-    def run(words):
+def test_what_a_command_raises(raised: BaseException, status: int, said: str, capsys: pytest.CaptureFixture[str],
+                               monkeypatch: pytest.MonkeyPatch) -> None:
+    def run(words: list[str]) -> NoReturn:
         raise raised
     monkeypatch.setattr(command, "_run", run)
     assert told(["read"], capsys) == (status, "", said)
 
 
-def test_each_command_is_imported_when_it_is_asked_for():
+def test_each_command_is_imported_when_it_is_asked_for() -> None:
     asked = ("import sys, noriladle.__main__ as it\n"
              "print(sorted(name for name in sys.modules if name.startswith('noriladle.commands.')))\n"
              "it.parser_of('read')\n"
@@ -84,7 +88,7 @@ def test_each_command_is_imported_when_it_is_asked_for():
     assert run.stdout.splitlines() == ["[]", "True False"]
 
 
-def test_a_closed_pipe_ends_it_quietly():
+def test_a_closed_pipe_ends_it_quietly() -> None:
     run = subprocess.run([sys.executable, "-m", "noriladle", "--help"], stdout=open("/dev/full", "w"),
                          stderr=subprocess.PIPE, text=True, env=PATHS)
     assert (run.returncode, run.stderr) == (1, "noriladle: No space left on device\n")
@@ -96,9 +100,9 @@ def test_a_closed_pipe_ends_it_quietly():
     assert (run.returncode, run.stderr) == (1, "")
 
 
-def test_it_starts_soon():
+def test_it_starts_soon() -> None:
     """The processor's time of a start, since others may use the machine; the best of five."""
-    def start():
+    def start() -> float:
         before = os.times()
         subprocess.run([sys.executable, "-I", "-S", "-c", f"import sys; sys.path[:0] = {sys.path!r}\n"
                         "from noriladle.__main__ import main\nsys.exit(main(['read', '--help']))"],
@@ -111,7 +115,7 @@ def test_it_starts_soon():
 SHOPS = ("labels", "check", "read")
 
 
-def test_shops_get_german_help_and_the_services_english(capsys, monkeypatch):
+def test_shops_get_german_help_and_the_services_english(capsys: pytest.CaptureFixture[str], monkeypatch: pytest.MonkeyPatch) -> None:
     english = {it.name: told([it.name, "--help"], capsys)[1] for it in COMMANDS}
     monkeypatch.setenv("LC_ALL", "de_DE.UTF-8")
     for it in COMMANDS:
@@ -134,12 +138,12 @@ def test_shops_get_german_help_and_the_services_english(capsys, monkeypatch):
      "oder --to FORM"),
     (["till", "--x"], "noriladle till: the following arguments are required: LANE; see noriladle till --help"),
 ])
-def test_option_errors_in_german(words, said, capsys, monkeypatch):
+def test_option_errors_in_german(words: list[str], said: str, capsys: pytest.CaptureFixture[str], monkeypatch: pytest.MonkeyPatch) -> None:
     monkeypatch.setenv("LC_ALL", "de_DE.UTF-8")
     assert told(words, capsys) == (2, "", f"{said}\n")
 
 
-def test_no_german_text_is_left_over():
+def test_no_german_text_is_left_over() -> None:
     """Each is the German of a text that stands in a source, or in argparse."""
     sources = [Path(argparse.__file__)] + [path for path in Path(command.__file__).parent.rglob("*.py") if path.name != "_german.py"]
     written = " ".join(re.sub('"\n *"', "", path.read_text("utf-8")) for path in sources)
@@ -148,7 +152,7 @@ def test_no_german_text_is_left_over():
         assert plain in written or plain.replace("'", "\\'") in written, text
 
 
-def test_all_options_are_explained():
+def test_all_options_are_explained() -> None:
     for it in COMMANDS:
         for action in parser_of(it.name)._actions:
             assert action.help, (it.name, action)

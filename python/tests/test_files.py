@@ -1,4 +1,6 @@
 """Files of lists: how texts are encoded, and what spreadsheets say. Files of other programs: tests/labels/run."""
+from __future__ import annotations
+
 import io
 import zipfile
 
@@ -19,7 +21,7 @@ FRENCH = "Libellé;Prix\nPâté;2\nCrème;3\nL’œuf;2\nGarçon;2\n"
     ("Descrizione;Prezzo\nCaffè;2\nCosì;3\n", ["cp1252"]), ("name;price\nKekse;2,90 €\n", ["cp1252", "cp1250"]),
     ("Název;Cena\nSýr tvrdý;2\nřízek;3\n", ["cp1250"]), ("Libellé;Prix\nBruyère;2\n", ["cp1252"]),
 ])
-def test_a_code_page_by_evidence(text, encodings):
+def test_a_code_page_by_evidence(text: str, encodings: list[str]) -> None:
     for encoding in encodings:
         try:
             data = text.encode(encoding)
@@ -36,14 +38,14 @@ def test_a_code_page_by_evidence(text, encodings):
     ("name;price\nmięso;2\n", "cp1250", "may be those of Windows-1252, Windows-1250"), ("name;price\nMöhren;1\n", "cp850", "may be those of"),
     ("name;price\nŠkoda ¤ ¬\n", "cp1250", "fit no known encoding"),
 ])
-def test_a_code_page_that_is_asked_about(text, encoding, said):
+def test_a_code_page_that_is_asked_about(text: str, encoding: str, said: str) -> None:
     with pytest.raises(Faults) as raised:
         decoded(text.encode(encoding))
     assert said in raised.value.faults[0].said
     assert decoded(text.encode(encoding), encoding).text == text
 
 
-def test_unicode():
+def test_unicode() -> None:
     for encoding in ("utf-8", "utf-8-sig", "utf-16", "utf-16-le", "utf-16-be"):
         assert decoded(POLISH.encode(encoding)).text == POLISH
     assert decoded(POLISH.encode("utf-16-le")).note == "read as UTF-16" and not decoded(POLISH.encode("utf-8")).note
@@ -64,7 +66,7 @@ def test_unicode():
     ("0.00E+00", "4012345010008", "4012345010008"), ("0.00", "4012345010008", "4012345010008"), ("General", "4.012345010008E+12", "4012345010008"),
     ('_-* #,##0.00\\ "€"_-;-* #,##0.00\\ "€"_-', "2.9", "2.90 €"), ("@", "5", "5"), ("h:mm", "46022.5", "2025-12-31 12:00:00"),
 ])
-def test_numbers_in_full(code, value, text):
+def test_numbers_in_full(code: str, value: str, text: str) -> None:
     assert written(value, format_of(164, code)) == text
 
 
@@ -74,7 +76,7 @@ WORKBOOK = ('<workbook xmlns="http://schemas.openxmlformats.org/spreadsheetml/20
 LINKS = ('<Relationships><Relationship Id="a" Target="worksheets/a.xml"/><Relationship Id="b" Target="/xl/worksheets/b.xml"/></Relationships>')
 
 
-def book(rows, others="", state="visible", **parts):
+def book(rows: str, others: str = "", state: str = "visible", **parts: str) -> bytes:
     """An .xlsx file with these rows on its sheets A and B."""
     file = io.BytesIO()
     with zipfile.ZipFile(file, "w", zipfile.ZIP_DEFLATED) as made:
@@ -84,12 +86,12 @@ def book(rows, others="", state="visible", **parts):
     return file.getvalue()
 
 
-def rows_of(data):
+def rows_of(data: bytes) -> tuple[list[tuple[int, list[str]]], list[str], list[tuple[int, str]]]:
     opened = opened_list(data)
-    return [(it.line, list(it.cells)) for it in opened.sheets[0].records], [*opened.notes], [tuple(it) for it in opened.sheets[0].faults]
+    return [(it.line, list(it.cells)) for it in opened.sheets[0].records], [*opened.notes], [(it.line, it.said) for it in opened.sheets[0].faults]
 
 
-def test_cells_of_each_kind():
+def test_cells_of_each_kind() -> None:
     strings = '<sst><si><r><t>a</t></r><r><t>b</t></r><rPh><t>no</t></rPh></si></sst>'
     data = book('<row r="2"><c r="B2" t="s"><v>0</v></c><c r="C2" t="inlineStr"><is><t>x_x000A_y</t><rPh><t>no</t></rPh></is></c><c t="b"><v>1</v></c></row>'
                 '<row r="4" hidden="1"><c r="A4"><v>2.9</v></c><c r="B4" t="e"><v>#N/A</v></c><c r="C4" t="str"><f>x</f><v></v></c></row>'
@@ -100,7 +102,7 @@ def test_cells_of_each_kind():
         [(5, "column AA has a formula without its value: open the spreadsheet, and save it again")])
 
 
-def test_the_sheet_that_is_taken():
+def test_the_sheet_that_is_taken() -> None:
     cell = "<row><c><v>1</v></c></row>"
     assert rows_of(book("", cell))[1] == ["took sheet 'B', and not 'A'"]
     assert rows_of(book(cell, cell, "hidden"))[1] == ["took sheet 'A', and not 'B' (hidden)"]
@@ -111,7 +113,7 @@ def test_the_sheet_that_is_taken():
 CONTENT = ('<d xmlns:table="t" xmlns:office="o" xmlns:text="x"><table:table table:name="A">{}</table:table></d>')
 
 
-def ods(rows, **parts):
+def ods(rows: str, **parts: str) -> bytes:
     file = io.BytesIO()
     with zipfile.ZipFile(file, "w", zipfile.ZIP_DEFLATED) as made:
         for name, text in {"content.xml": CONTENT.format(rows), **parts}.items():
@@ -119,8 +121,8 @@ def ods(rows, **parts):
     return file.getvalue()
 
 
-def test_cells_of_an_ods():
-    def number(value, shown, kind="float"):
+def test_cells_of_an_ods() -> None:
+    def number(value: str, shown: str, kind: str = "float") -> str:
         return f'<table:table-cell office:value-type="{kind}" office:value="{value}"><text:p>{shown}</text:p></table:table-cell>'
     data = ods('<table:table-row table:number-rows-repeated="3"><table:table-cell table:number-columns-repeated="1024"/></table:table-row>'
                f'<table:table-row>{number("4012345010008", "4.01E+12")}{number("2.9", "3 €", "currency")}{number("12345000065", "012345000065")}'
@@ -143,7 +145,7 @@ def test_cells_of_an_ods():
     (ods('<table:table-row table:number-rows-repeated="1000000"><table:table-cell table:number-columns-repeated="9"><text:p>x</text:p>'
          '</table:table-cell></table:table-row>'), "too large"),
 ])
-def test_spreadsheets_that_are_refused(data, said):
+def test_spreadsheets_that_are_refused(data: bytes, said: str) -> None:
     with pytest.raises(Faults) as raised:
         opened_list(data)
     (line, told), = raised.value.faults

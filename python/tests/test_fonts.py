@@ -7,14 +7,15 @@ import pytest
 from PIL import Image, ImageChops, ImageDraw, ImageFilter, ImageFont
 
 from noriladle.labels import _letters, _truetype, fonts_of
-from noriladle.labels._letters import dots_of
+from noriladle.labels._fonts import Font
+from noriladle.labels._letters import Dots, dots_of
 from noriladle.labels._truetype import NoFont, metrics_of
 
 ttfonts = pytest.importorskip("reportlab.pdfbase.ttfonts")
 FONTS = sorted(Path("/usr/share/fonts").rglob("*.ttf"))[:20]
 
 
-def test_the_widths_are_those_that_reportlab_reads():
+def test_the_widths_are_those_that_reportlab_reads() -> None:
     """reportlab also counts characters that have the sign for missing ones."""
     read = 0
     for path in FONTS:
@@ -33,7 +34,7 @@ def test_the_widths_are_those_that_reportlab_reads():
     assert read or not FONTS
 
 
-def test_no_font(tmp_path):
+def test_no_font(tmp_path: Path) -> None:
     font = fonts_of().regular.path.read_bytes()
     path = tmp_path / "font.ttf"
     for data in (b"", b"no font", b"OTTO" + font[4:], font[:12], font[:300], font[:len(font) // 20], b"ttcf" + struct.pack(">III", 1, 1, 1 << 31)):
@@ -44,7 +45,7 @@ def test_no_font(tmp_path):
         fonts_of(str(path))
 
 
-def test_damaged_fonts_end(tmp_path):
+def test_damaged_fonts_end(tmp_path: Path) -> None:
     """A byte of the tables is another: the font is read or refused, and neither takes long."""
     font = bytearray(fonts_of().regular.path.read_bytes())
     tables = dict(_truetype.tables_of(bytes(font)))
@@ -57,7 +58,7 @@ def test_damaged_fonts_end(tmp_path):
         font[place] = before
 
 
-def picture(width, height, left, base, dots):
+def picture(width: int, height: int, left: int, base: int, dots: Dots) -> Image.Image:
     """The dots of a letter in a picture, at a place on its base line."""
     wide = (dots.width + 7) // 8
     data = b"".join((row << 8 * wide - dots.width).to_bytes(wide, "big") for row in dots.rows)
@@ -67,7 +68,7 @@ def picture(width, height, left, base, dots):
 
 
 @pytest.mark.parametrize("font", [*fonts_of(), *(fonts_of(str(path)).regular for path in FONTS[:4])], ids=lambda font: font.path.name)
-def test_letters_are_those_that_pillow_draws(font):
+def test_letters_are_those_that_pillow_draws(font: Font) -> None:
     """All dots are those of FreeType, except some within three dots of an edge, since its hints move edges. Letters with accents are of two parts."""
     size = 200
     drawer = ImageFont.truetype(str(font.path), size)
@@ -83,7 +84,7 @@ def test_letters_are_those_that_pillow_draws(font):
         assert thinner.getbbox() or letter in "i", letter
 
 
-def test_strokes_of_less_than_a_dot_stay():
+def test_strokes_of_less_than_a_dot_stay() -> None:
     """In each size a stem is one stroke from its foot to its top, a bar one from end to end, and a stop a block."""
     for size in (tenth / 10 for tenth in range(50, 250)):
         stem, bar, stop = (dots_of(fonts_of().regular.path, letter, size) for letter in "l-.")
@@ -92,11 +93,11 @@ def test_strokes_of_less_than_a_dot_stay():
             assert block.rows and set(block.rows) == {(1 << block.width) - 1} and block.width >= wide, (size, block)
 
 
-def test_a_blank_has_no_dots():
+def test_a_blank_has_no_dots() -> None:
     assert dots_of(fonts_of().regular.path, " ", 30) == (0, 0, 0, ())
 
 
-def test_damaged_letters_end(tmp_path):
+def test_damaged_letters_end(tmp_path: Path) -> None:
     """A byte of the outlines or of their places is another: the letter is drawn or refused, and neither takes long."""
     font = bytearray(fonts_of().regular.path.read_bytes())
     tables = dict(_truetype.tables_of(bytes(font)))

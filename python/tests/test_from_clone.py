@@ -1,4 +1,6 @@
 """``./noriladle`` of a clone: read-only, by another user, from a zip, with a stale or damaged release, and on a bare Debian."""
+from __future__ import annotations
+
 import gzip
 import hashlib
 import importlib.util
@@ -12,6 +14,7 @@ import tempfile
 import time
 import zipfile
 from pathlib import Path
+from typing import Any, Sequence
 
 import pytest
 
@@ -24,7 +27,7 @@ NEEDED = ("VERSION", "crates.txt", "crates/digits_core/", "embed/", "examples/sh
 """What copies have of the clone. Their release says that it is of these few sources."""
 
 
-def _names():
+def _names() -> list[str]:
     if not (ROOT / ".git").exists():
         pytest.skip("this is no clone")
     words = ["git", "-C", str(ROOT), "ls-files", "-z", "--cached", "--others", "--exclude-standard"]
@@ -33,7 +36,7 @@ def _names():
 
 
 @pytest.fixture(scope="module", name="whole")
-def _whole(tmp_path_factory):
+def _whole(tmp_path_factory: pytest.TempPathFactory) -> Path:
     """A copy of the clone that is never changed."""
     folder = tmp_path_factory.mktemp("whole") / "clone"
     for name in _names():
@@ -44,20 +47,20 @@ def _whole(tmp_path_factory):
     return folder
 
 
-def sources_of(clone):
+def sources_of(clone: Path) -> str:
     """The sum of a clone's sources, by its script."""
     return subprocess.run([str(clone / "package" / "sources")], check=True, stdout=subprocess.PIPE, text=True).stdout.strip()
 
 
 @pytest.fixture(name="clone")
-def _clone(whole, tmp_path):
+def _clone(whole: Path, tmp_path: Path) -> Path:
     """A copy that a test may change."""
     shutil.copytree(whole, tmp_path / "clone", symlinks=True)
     return tmp_path / "clone"
 
 
 @pytest.fixture(name="bare")
-def _bare(tmp_path_factory):
+def _bare(tmp_path_factory: pytest.TempPathFactory) -> dict[str, str]:
     """The environment of a Python without any module of others."""
     folder = tmp_path_factory.mktemp("bare")
     subprocess.run(["/usr/bin/python3" if Path("/usr/bin/python3").exists() else sys.executable, "-m", "venv", "--without-pip", str(folder)],
@@ -65,19 +68,19 @@ def _bare(tmp_path_factory):
     return {"VIRTUAL_ENV": str(folder), "PATH": f"{folder}/bin:/usr/bin:/bin"}
 
 
-def ran(clone, *words, cache, shell=(), **more):
+def ran(clone: Path, *words: str, cache: Path, shell: Sequence[str] = (), **more: Any) -> subprocess.CompletedProcess[str]:
     """What the command of a clone answers."""
     env = {"PATH": os.environ["PATH"], "LC_ALL": "C.UTF-8", "HOME": "/nonexistent", "XDG_CACHE_HOME": str(cache), **more.pop("env", {})}
     return subprocess.run([*shell, str(clone / "noriladle"), *words], cwd=clone, env=env, stdout=subprocess.PIPE,
                           stderr=subprocess.PIPE, text=True, check=False, **more)
 
 
-def listing(folder):
+def listing(folder: Path) -> list[tuple[str, int, int]]:
     """The files of a folder with their sizes and times."""
     return sorted((str(path), path.lstat().st_size, path.lstat().st_mtime_ns) for path in folder.rglob("*"))
 
 
-def test_it_answers_and_leaves_the_clone_as_it_is(whole, tmp_path):
+def test_it_answers_and_leaves_the_clone_as_it_is(whole: Path, tmp_path: Path) -> None:
     before = listing(whole)
     path = tmp_path / "my list"
     path.write_text("9501101530003\n")
@@ -93,7 +96,7 @@ def test_it_answers_and_leaves_the_clone_as_it_is(whole, tmp_path):
     assert listing(whole) == before
 
 
-def test_a_read_only_clone_of_another_user(whole):
+def test_a_read_only_clone_of_another_user(whole: Path) -> None:
     if os.getuid():
         pytest.skip("only root can become another user")
     with tempfile.TemporaryDirectory() as top:
@@ -108,7 +111,7 @@ def test_a_read_only_clone_of_another_user(whole):
         assert listing(clone) == before and {path.lstat().st_uid for path in cache.rglob("*")} == {NOBODY}
 
 
-def test_a_clone_from_a_zip(whole, tmp_path):
+def test_a_clone_from_a_zip(whole: Path, tmp_path: Path) -> None:
     """A zip keeps no permissions, if Python unpacks it."""
     with zipfile.ZipFile(tmp_path / "clone.zip", "w") as packed:
         for path in whole.rglob("*"):
@@ -119,9 +122,9 @@ def test_a_clone_from_a_zip(whole, tmp_path):
     assert run.returncode == 0 and run.stdout.startswith("noriladle ") and run.stderr == ""
 
 
-def test_without_modules(whole, tmp_path, bare):
+def test_without_modules(whole: Path, tmp_path: Path, bare: dict[str, str]) -> None:
     """Only PDF needs more than Python and a font; what it needs is named with one command."""
-    def made(form, *more):
+    def made(form: str, *more: str) -> tuple[int, str, bool]:
         out = tmp_path / f"labels.{form}"
         run = ran(whole, "labels", SHELF, "-o", str(out), *more, cache=tmp_path / "cache", env=bare)
         return run.returncode, run.stderr.splitlines()[-1], out.exists()
@@ -135,7 +138,7 @@ def test_without_modules(whole, tmp_path, bare):
         assert made(form) == (0, f"21 labels{pages} in {tmp_path}/labels.{form}", True)
 
 
-def test_helps_need_no_modules(whole, tmp_path, bare):
+def test_helps_need_no_modules(whole: Path, tmp_path: Path, bare: dict[str, str]) -> None:
     """package/build makes manual pages of them, and needs Python alone."""
     helps = ran(whole, "--help", cache=tmp_path, env=bare).stdout
     names = re.findall(r"^  (\w+)  ", helps.partition("Commands:\n")[2].partition("\n\n")[0], re.MULTILINE)
@@ -146,7 +149,7 @@ def test_helps_need_no_modules(whole, tmp_path, bare):
     assert (run.returncode, run.stderr) == (2, "noriladle: Redis needs hiredis: apt-get install python3-hiredis\n")
 
 
-def test_without_a_font(monkeypatch):
+def test_without_a_font(monkeypatch: pytest.MonkeyPatch) -> None:
     from noriladle.labels import _fonts, missing
 
     monkeypatch.setattr(_fonts, "_FOLDERS", ())
@@ -160,7 +163,7 @@ def test_without_a_font(monkeypatch):
                                      "apt-get install fonts-liberation")
 
 
-def test_a_stale_release_is_said_in_one_line(clone, tmp_path):
+def test_a_stale_release_is_said_in_one_line(clone: Path, tmp_path: Path) -> None:
     source = clone / "crates" / "digits_core" / "src" / "lib.rt"
     before = source.read_bytes()
     source.write_bytes(before + b"\n")
@@ -173,7 +176,7 @@ def test_a_stale_release_is_said_in_one_line(clone, tmp_path):
 
 
 @pytest.mark.parametrize("spoil", ["cut", "other", "gone", "manifest"])
-def test_a_damaged_release(clone, tmp_path, spoil):
+def test_a_damaged_release(clone: Path, tmp_path: Path, spoil: str) -> None:
     packed = clone / "release" / os.uname().machine / "libgs1.so.gz"
     if spoil == "cut":
         packed.write_bytes(packed.read_bytes()[:5000])
@@ -186,7 +189,7 @@ def test_a_damaged_release(clone, tmp_path, spoil):
     assert run.stderr.count("\n") == 1 and "git checkout -- release brings it back" in run.stderr
 
 
-def test_a_new_release_and_a_new_module_are_taken(clone, tmp_path):
+def test_a_new_release_and_a_new_module_are_taken(clone: Path, tmp_path: Path) -> None:
     ran(clone, "--version", cache=tmp_path / "cache")
     (clone / "python" / "noriladle" / "_new.py").write_text("")
     remedies = clone / "tables" / "remedies.tsv"
@@ -205,7 +208,7 @@ def test_a_new_release_and_a_new_module_are_taken(clone, tmp_path):
     assert (folder / "libgs1.so").read_bytes() == newer
 
 
-def test_the_services_find_the_program_of_the_clone(clone, tmp_path):
+def test_the_services_find_the_program_of_the_clone(clone: Path, tmp_path: Path) -> None:
     words = [str(clone / "noriladle"), "gateway", "--unix", str(tmp_path / "hub")]
     env = {"PATH": "/usr/bin:/bin", "HOME": str(tmp_path), "XDG_CACHE_HOME": str(tmp_path / "cache")}
     with subprocess.Popen(words, env=env, stderr=subprocess.DEVNULL) as gateway:
@@ -215,19 +218,19 @@ def test_the_services_find_the_program_of_the_clone(clone, tmp_path):
         gateway.terminate()
 
 
-def test_a_cache_that_cannot_be_written(whole, tmp_path):
+def test_a_cache_that_cannot_be_written(whole: Path, tmp_path: Path) -> None:
     (tmp_path / "file").write_text("")
     run = ran(whole, "--version", cache=tmp_path / "file")
     assert run.returncode == 69 and run.stderr.count("\n") == 1 and "set XDG_CACHE_HOME" in run.stderr
 
 
-def test_a_full_disk(whole, tmp_path):
+def test_a_full_disk(whole: Path, tmp_path: Path) -> None:
     run = ran(whole, "--version", cache=tmp_path / "cache", preexec_fn=_small)
     assert run.returncode == 69 and run.stderr.count("\n") == 1 and "File too large; set XDG_CACHE_HOME" in run.stderr
     assert ran(whole, "--version", cache=tmp_path / "cache").returncode == 0
 
 
-def _small():
+def _small() -> None:
     import resource
     import signal
 
@@ -235,7 +238,7 @@ def _small():
     resource.setrlimit(resource.RLIMIT_FSIZE, (100_000, 100_000))
 
 
-def test_without_python(whole, tmp_path):
+def test_without_python(whole: Path, tmp_path: Path) -> None:
     (tmp_path / "bin").mkdir()
     for tool in ("readlink", "dirname"):
         (tmp_path / "bin" / tool).symlink_to(shutil.which(tool))
@@ -244,7 +247,7 @@ def test_without_python(whole, tmp_path):
     assert (run.returncode, run.stderr) == (69, "noriladle: there is no python3: apt-get install python3\n")
 
 
-def test_several_starts_at_once(whole, tmp_path):
+def test_several_starts_at_once(whole: Path, tmp_path: Path) -> None:
     env = {**os.environ, "XDG_CACHE_HOME": str(tmp_path)}
     runs = [subprocess.Popen([str(whole / "noriladle"), "--version"], stdout=subprocess.PIPE, stderr=subprocess.PIPE, env=env) for _ in range(6)]
     assert {(run.communicate()[1], run.returncode) for run in runs} == {(b"", 0)}

@@ -1,8 +1,12 @@
 """Labels of lists: what is refused, what is drawn, and what the files say. Readers of other makes: tests/labels/run."""
+from __future__ import annotations
+
 import io
 import re
 from copy import copy
 from dataclasses import replace
+from pathlib import Path
+from typing import Any
 
 import pytest
 
@@ -10,7 +14,7 @@ pytest.importorskip("reportlab")
 
 import noriladle
 from noriladle import Kind, find_dots, label_symbol, labels
-from noriladle.labels import Faults, Look, fonts_of, make, read_list, stock_of
+from noriladle.labels import Faults, Labels, Look, fonts_of, make, read_list, stock_of
 from noriladle.labels import _stocks
 from noriladle.labels._dots import Image as Dots
 from noriladle.labels._dots import _zpl_row, image_of
@@ -22,15 +26,15 @@ YEAR = 2026
 NO_PRICE, BARS = {"price": ""}, Look(is_price_first=False)
 
 
-def made(data=LIST, stock="L7160", **named):
+def made(data: bytes = LIST, stock: str = "L7160", **named: Any) -> Labels:
     columns = None if b"price" in data else NO_PRICE
     return make(read_list(data, YEAR, columns), stock_of(stock), YEAR, **named)
 
 
-def faults(data, stock="L7160", **named):
+def faults(data: str, stock: str = "L7160", **named: Look) -> list[tuple[int, str]]:
     with pytest.raises(Faults) as raised:
         made(data if isinstance(data, bytes) else data.encode(), stock, **named)
-    return [tuple(fault) for fault in raised.value.faults]
+    return [(fault.line, fault.said) for fault in raised.value.faults]
 
 
 # In mm, from memory: the makers' data sheets are to confirm them.
@@ -47,7 +51,7 @@ def faults(data, stock="L7160", **named):
     ("2x3:60x40+5+2@a5", 6, (11.5, 43), (76.5, 127)), ("2x7:90x38@a4/7.5/15", 14, (7.5, 15), (97.5, 243)), ("2x1:50x25+2+0@104x25", 2, (1, 0), (53, 0)),
     ("1x2:100x60/10/20&2x1:100x60/5/200", 4, (10, 20), (105, 200)),
 ])
-def test_stock(name, cells, first, last):
+def test_stock(name: str, cells: int, first: tuple[float, float], last: tuple[float, float]) -> None:
     stock = stock_of(name)
     assert stock.cells == cells
     assert stock.place(0) == pytest.approx(first, abs=0.006) and stock.place(cells - 1) == pytest.approx(last, abs=0.006)
@@ -58,7 +62,7 @@ def test_stock(name, cells, first, last):
     ("4x8:70x37", "larger than their page"), ("0x1:70x37", "no labels of 5 to 1000 mm"), ("3x8:70x37@a0", "there is no page 'a0'"),
     ("3x8:1x1", "no labels"), ("1x2:100x60&1x2:90x60", "no labels"), ("1x2:100x60/150/20", "larger than their page"), ("1x1:50x30@20x20", "larger"), ("70x37\n\n", None), ("2000x20", "no labels"),
 ])
-def test_no_stock(name, told):
+def test_no_stock(name: str, told: str | None) -> None:
     if told is None:
         assert stock_of(name).cells == 1
     else:
@@ -66,7 +70,7 @@ def test_no_stock(name, told):
             stock_of(name)
 
 
-def test_stock_of_glabels(tmp_path, monkeypatch):
+def test_stock_of_glabels(tmp_path: Path, monkeypatch: pytest.MonkeyPatch) -> None:
     monkeypatch.setattr(_stocks, "_TEMPLATES", tmp_path)
     (tmp_path / "paper-sizes.xml").write_text('<P><Paper-size id="A6" width="105mm" height="148mm"/></P>')
     label = '<Label-rectangle id="0" width="2in" height="30mm"><Markup-margin size="5"/><Layout nx="2" ny="4" x0="1mm" y0="36pt" dx="52mm" dy="30mm"/></Label-rectangle>'
@@ -78,7 +82,7 @@ def test_stock_of_glabels(tmp_path, monkeypatch):
         stock_of("X1")
 
 
-def test_edges_and_rows():
+def test_edges_and_rows() -> None:
     look = Look(203)
     (_, drawing), = labels.outlines(stock_of("3474"), look).drawings
     assert labels.outlines(stock_of("3474"), look).sheets == 1 and len(drawing.boxes) == 4 and max(it[0] + it[2] for it in drawing.boxes) == drawing.width
@@ -105,17 +109,17 @@ def test_edges_and_rows():
     ("gtin,name\n96385074,\U000f1234\n", 2, "'\\U000f1234' cannot be set"),
     ("gtin,name\n96385074,שלום\n", 2, "from right to left"), ("gtin,name\n96385074,\u0301\n", 2, "cannot be set"),
     ("gs1\n(01)09501101530003(17)261331\n", 2, "refused 9 ValueDate 17: at (17)261331: write YYMMDD"),
-    ("gs1\n(01)09501101530003(10)A(B)C\n", 2, "parentheses stand around Application Identifiers alone"),
+    ("gs1\n(01)09501101530003(20)A(B)C\n", 2, "parentheses stand around Application Identifiers alone"),
     ("gtin\nhttps://id.gs1.org/01/09501101530003\n", 2, "a QR code, which is not drawn here: write its elements, as (01)09501101530003"),
     ('gtin,name\n96385074,"a\nb"\n1,c\n', 4, "1: refused 1 Length"),
     ('gtin,name\n96385074,"a"b\n', 2, "this line is not CSV"),
 ])
-def test_faults_of_lists(data, line, told):
+def test_faults_of_lists(data: str, line: int, told: str) -> None:
     told_lines = faults(data)
     assert [number for number, _ in told_lines] == [line] and told in told_lines[0][1]
 
 
-def test_all_faults_are_told():
+def test_all_faults_are_told() -> None:
     assert [line for line, _ in faults("gtin;name\n1;a\n96385074;b\n2;c\n")] == [2, 4]
 
 
@@ -130,17 +134,17 @@ def test_all_faults_are_told():
     ("^10AB^17261231,", Kind.GS1128, "10AB\x1d17261231"), ("[10]AB[17]261231,", Kind.GS1128, "10AB\x1d17261231"),
     ("9501101530003,gs1128", Kind.GS1128, "0109501101530003"), ("(01)09501101530003,ean13", Kind.EAN13, "09501101530003"),
 ])
-def test_kinds(cells, kind, text):
+def test_kinds(cells: str, kind: Kind, text: str) -> None:
     article, = read_list(f"gtin,kind\n{cells}\n".encode(), YEAR, NO_PRICE).articles
     assert (article.kind, article.text) == (kind, text)
 
 
-def test_an_element_string_of_its_column_needs_no_mark():
+def test_an_element_string_of_its_column_needs_no_mark() -> None:
     article, = read_list(b"gs1\n010950110153000310AB\n", YEAR, NO_PRICE).articles
     assert (article.kind, article.text) == (Kind.GS1128, "010950110153000310AB")
 
 
-def test_bars_that_have_no_room():
+def test_bars_that_have_no_room() -> None:
     (line, told), = faults("gs1\n(01)09501101530003(17)261231(10)LOT7\n", "3474")
     assert line == 2 and "needs 89.4 mm with its quiet zones" in told and "use labels of 92 mm or more (L7162, L7163, L7165)" in told and "--turn" not in told
     assert "--turn" in faults("gs1\n(01)09501101530003(17)261231(10)LOT7\n", "1x1:70x148")[0][1]
@@ -148,8 +152,8 @@ def test_bars_that_have_no_room():
     assert "are left for the bars" in faults("gtin,name\n9501101530003,x\n", "60x10")[0][1]
 
 
-def test_modules_are_whole_dots_next_to_what_is_wanted():
-    def dots(stock, **named):
+def test_modules_are_whole_dots_next_to_what_is_wanted() -> None:
+    def dots(stock: str, **named: Any) -> int:
         (_, drawing), = made(b"gtin\n9501101530003\n", stock, look=Look(**named)).drawings
         return min(width for _, _, width, _ in drawing.boxes)
     assert [dots("L7160", resolution=it) for it in (203, 300, 600)] == [3, 4, 8]  # 0.375, 0.339, 0.339 mm
@@ -168,12 +172,12 @@ def test_modules_are_whole_dots_next_to_what_is_wanted():
     (Look(bars_mm=30), "gtin,name,price\n9501101530003,x,1.95\n", "or the look of large bars (--look bars)"),
     (Look(), f"gtin,{','.join(f'line {n}' for n in range(1, 10))}\n9501101530003{',x' * 9}\n", "at most 8 further lines"),
 ])
-def test_what_no_label_shows_is_refused(look, data, told):
+def test_what_no_label_shows_is_refused(look: Look, data: str, told: str) -> None:
     (line, said), = faults(data, "L7160", look=look)
     assert line == 2 and told in said
 
 
-def test_warnings():
+def test_warnings() -> None:
     data = b"gtin,name\n9501101530003,x\n96385074,y\n9501101530010,z\n"
     told = "the bars are {} mm high; the standard asks for {} mm, and lower bars are harder to hit: use higher labels"
     assert [(it.lines, it.said) for it in made(data, "L7651", look=Look(600)).warnings] == [
@@ -183,7 +187,7 @@ def test_warnings():
     assert said.startswith("a text is cut, since the label has no room for it: WWWW") and len(said) < 300
 
 
-def test_a_name_that_shows_nothing_does_no_harm():
+def test_a_name_that_shows_nothing_does_no_harm() -> None:
     for sign in "\u200b\u200e\xad\u2060":
         try:
             assert made(f"gtin,name\n96385074,{sign}\n".encode(), "3474").count == 1
@@ -191,14 +195,14 @@ def test_a_name_that_shows_nothing_does_no_harm():
             assert "cannot be set" in str(error)
 
 
-def test_one_long_price_does_not_make_all_small():
-    def size(extra):
+def test_one_long_price_does_not_make_all_small() -> None:
+    def size(extra: str) -> float:
         drawings = made(f"gtin,price\n9501101530003,1.95\n96385074,2.95\n012345000065,{extra}\n".encode(), "3474").drawings
         return max(text.size for text in drawings[0][1].texts)
     assert size("3.95") == size("1 234 567.95 Euro")
 
 
-def test_prices_of_one_width_fill_their_column():
+def test_prices_of_one_width_fill_their_column() -> None:
     (_, drawing), *_ = made(b"gtin,price\n9501101530003,1.95\n012345000065,3.95\n", "3474", look=BARS).drawings
     price = next(text for text in drawing.texts if text.text == "1.95")
     end = max(left + width for left, _, width, _ in drawing.boxes)
@@ -206,7 +210,7 @@ def test_prices_of_one_width_fill_their_column():
     assert end + 7 * 4 + 11 < price.left < end + 7 * 4 + 12 + 0.01 * price.wide
 
 
-def test_copies_and_the_first_cell():
+def test_copies_and_the_first_cell() -> None:
     pages = list(made(start=20).pages())
     assert [[(placed.left, placed.top) for placed in page] for page in pages] == [[(865, 2879), (1645, 2879)], [(85, 179), (865, 179)]]
     assert made(start=20).sheets == 2 and made().sheets == 1 and made().count == 4
@@ -219,7 +223,7 @@ def test_copies_and_the_first_cell():
         made(b"gtin,copies\n" + b"96385074,1000\n" * 101)
 
 
-def test_rows_of_a_label_with_its_letters_say_its_article():
+def test_rows_of_a_label_with_its_letters_say_its_article() -> None:
     data = ("gtin,name,price,line 1\n9501101530003,Ůgaj |ĤŔ Ģy,1.95,j|Ģ\n012345000065,Öl,2.95,\n96385074,,3.95,\n"
             "]E001234565,,,\n09501101530003,Kiste,,\n^10AB^17261231,Los,,\n")
     for resolution, stock, is_first in ((203, "100x50", False), (203, "100x50", True), (300, "L7163", False), (600, "L7163", True)):
@@ -234,7 +238,7 @@ def test_rows_of_a_label_with_its_letters_say_its_article():
             assert sorted(shown.replace(" ", "")) == sorted("".join((article.name, article.price, *article.lines, symbol.text)).replace(" ", ""))
 
 
-def test_letters_lie_in_their_rectangles():
+def test_letters_lie_in_their_rectangles() -> None:
     data = "gtin,name,price,line 1\n9501101530003,ŮgajÖÅ|ĤŔ Ģy@W$,1.95 €,j|Ģ(Ŵ)\n^10ABCgj^17261231,Qj[]{},,(ÿ)\n".encode()
     for resolution in (203, 300, 600):
         for _, drawing in made(data, "2x4:99.1x67.7", look=Look(resolution)).drawings:
@@ -246,7 +250,7 @@ def test_letters_lie_in_their_rectangles():
                 assert any(inside.rows) and inside.rows == outside.rows, text
 
 
-def test_letters_that_a_font_lacks_come_from_the_next():
+def test_letters_that_a_font_lacks_come_from_the_next() -> None:
     fonts = fonts_of()
     poor = replace(fonts.bold, widths=copy(fonts.bold.widths), borrowed={})
     del poor.widths["Ż"]
@@ -257,7 +261,7 @@ def test_letters_that_a_font_lacks_come_from_the_next():
     assert name.wide < name.box[2] + 1 and dots_of(paths[0], "Ż", name.size).rows
 
 
-def test_files():
+def test_files() -> None:
     it = made("gtin,name\n9501101530003,<&>^~_\\\n".encode(), "57x32")
     assert it.pdf() == it.pdf() and it.pdf()[:5] == b"%PDF-"
     assert "&lt;&amp;&gt;^~_\\</text>" in next(it.svgs())
@@ -272,16 +276,16 @@ def test_files():
     ("00", "ff", ","), ("ff", "ff", ":"), ("f0", "ff", "F,"), ("ff" * 10, "", "gF"), ("ffffff00", "", "LF,"), ("0aaaaa", "", "0KA"),
     ("11" * 200, "", "z1"), ("11" * 213, "", "zgL1"), ("a1b2", "", "A1B2"), ("0000ff", "", "J0FF"),
 ])
-def test_rows_of_zpl(row, before, told):
+def test_rows_of_zpl(row: str, before: str, told: str) -> None:
     assert _zpl_row(bytes.fromhex(row), bytes.fromhex(before)) == told
 
 
-def test_doctest_of_the_module():
+def test_doctest_of_the_module() -> None:
     import doctest
     assert doctest.testmod(labels) == (0, 3)
 
 
-def test_it_says_what_is_not_installed(monkeypatch, capsys):
+def test_it_says_what_is_not_installed(monkeypatch: pytest.MonkeyPatch, capsys: pytest.CaptureFixture[str]) -> None:
     import sys
 
     from noriladle.__main__ import main

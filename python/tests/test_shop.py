@@ -1,4 +1,6 @@
 """The commands of a shop: ``noriladle labels``, ``check`` and ``read``, as they are typed."""
+from __future__ import annotations
+
 import errno
 import io
 import json
@@ -11,6 +13,8 @@ import sys
 import threading
 import time
 import zlib
+from pathlib import Path
+from typing import Any, NoReturn
 
 import pytest
 
@@ -22,19 +26,19 @@ LIST = "ean;name;price\n4012345010008;Haferkekse;2,90\n96385074;Kaugummi;0,90\n"
 
 
 @pytest.fixture
-def folder(tmp_path, monkeypatch):
+def folder(tmp_path: Path, monkeypatch: pytest.MonkeyPatch) -> Path:
     monkeypatch.chdir(tmp_path)
     return tmp_path
 
 
-def told(words, capsys):
+def told(words: list[str], capsys: pytest.CaptureFixture[str]) -> tuple[int, list[str], list[str]]:
     """The status of a command, and the lines that it wrote on standard output and on standard error."""
     status = main([*words, "--year", "2026"])
     out, err = capsys.readouterr()
     return status, out.splitlines(), err.splitlines()
 
 
-def save(name, text, encoding="utf-8"):
+def save(name: str, text: str | bytes, encoding: str = "utf-8") -> str:
     with open(name, "wb") as file:
         file.write(text if isinstance(text, bytes) else text.encode(encoding))
     return name
@@ -46,19 +50,19 @@ def save(name, text, encoding="utf-8"):
 ALONE = "10 needs 01 or 02 or 03 or 8006 or 8026"
 
 
-def test_check(folder, capsys):
-    save("a", "978-3-16-148410-0\n\n96385075\n(10)A\n]C110A\n^10A^17261231\n(10)A)\n")
+def test_check(folder: Path, capsys: pytest.CaptureFixture[str]) -> None:
+    save("a", "978-3-16-148410-0\n\n96385075\n(10)A\n]C110A\n^10A^17261231\n(20)A)\n")
     assert told(["check", "a"], capsys) == (1, [
         "1\t978-3-16-148410-0\t(01)09783161484100",
         "3\t96385075\trefused 3 CheckDigit\ta digit is wrong; if it is the last one, 96385074 is right",
         f"4\t(10)A\t(10)A\twarning: {ALONE}", f"5\t]C110A\t]C1 (10)A\twarning: {ALONE}",
         f"6\t^10A^17261231\t(10)A(17)261231\twarning: {ALONE}; 17 needs 01 or 02 or 03 or 255 or 8006 or 8026",
-        "7\t(10)A)\trefused 5 UnknownAi\tparentheses stand around Application Identifiers alone, as in (01)09501101530003(10)AB; if a value has some, "
-        "write [01]09501101530003[10]A(B)"], ["a: 2 of 6 lines refused"])
+        "7\t(20)A)\trefused 5 UnknownAi\tparentheses stand around Application Identifiers alone, as in (01)09501101530003(10)AB; if a value has one in "
+        "parentheses, write [01]09501101530003[10]A(17)"], ["a: 2 of 6 lines refused"])
     assert told(["check", "a", "--refused"], capsys)[1] == told(["check", "a"], capsys)[1][1:2] + told(["check", "a"], capsys)[1][5:]
 
 
-def test_check_of_a_list(folder, capsys):
+def test_check_of_a_list(folder: Path, capsys: pytest.CaptureFixture[str]) -> None:
     save("a.csv", "Artikelnummer;Bezeichnung\n4012345010008;Haferkekse\n4012345010375;Brot\n\"x\"y\n")
     status, out, err = told(["check", "a.csv"], capsys)
     assert status == 1 and err == ["a.csv: took 'Artikelnummer' for the gtin, 'Bezeichnung' for the name; if that is wrong, say it by --column",
@@ -69,7 +73,7 @@ def test_check_of_a_list(folder, capsys):
     assert [json.loads(line).get("article") for line in told(["check", "a.csv", "--json"], capsys)[1]] == ["Haferkekse", "Brot", None]
 
 
-def test_a_gtin_in_a_column_of_element_strings_is_asked_about(folder, capsys):
+def test_a_gtin_in_a_column_of_element_strings_is_asked_about(folder: Path, capsys: pytest.CaptureFixture[str]) -> None:
     save("a.csv", "gs1;name\n9501101530003;Oats\n^9501101530003;Oats\n109501;Oats\n(01)09501101530003;Oats\n")
     status, out, _ = told(["check", "a.csv"], capsys)
     assert status == 1 and out == [
@@ -80,13 +84,13 @@ def test_a_gtin_in_a_column_of_element_strings_is_asked_about(folder, capsys):
         "a.csv: 1 line refused, so nothing was written"]
 
 
-def test_check_of_a_list_without_numbers_has_no_sum(folder, capsys):
+def test_check_of_a_list_without_numbers_has_no_sum(folder: Path, capsys: pytest.CaptureFixture[str]) -> None:
     save("a.csv", "EAN;Name\n;Getränke\n")
     assert told(["check", "a.csv"], capsys) == (0, [], ["a.csv: 1 line without a number is passed over: 2"])
 
 
-def test_check_as_json(folder, capsys):
-    save("a", "]C110A\x1d17261231\n96385075\n(10)A)\n")
+def test_check_as_json(folder: Path, capsys: pytest.CaptureFixture[str]) -> None:
+    save("a", "]C110A\x1d17261231\n96385075\n(20)A)\n")
     status, out, _ = told(["check", "a", "--json"], capsys)
     assert status == 1
     assert [json.loads(line) for line in out][:2] == [
@@ -95,10 +99,10 @@ def test_check_as_json(folder, capsys):
          "conflicts": [ALONE, "17 needs 01 or 02 or 03 or 255 or 8006 or 8026"]},
         {"line": 2, "text": "96385075", "refused": 3, "name": "CheckDigit", "place": None,
          "remedy": "a digit is wrong; if it is the last one, 96385074 is right", "fixes": ["96385074"]}]
-    assert [json.loads(out[2])[key] for key in ("refused", "name", "place", "fixes")] == [5, "UnknownAi", None, ["[10]A)"]]
+    assert [json.loads(out[2])[key] for key in ("refused", "name", "place", "fixes")] == [5, "UnknownAi", None, []]
 
 
-def test_conflicts_are_warnings_unless_check_is_strict(folder, capsys, monkeypatch):
+def test_conflicts_are_warnings_unless_check_is_strict(folder: Path, capsys: pytest.CaptureFixture[str], monkeypatch: pytest.MonkeyPatch) -> None:
     save("a", "9501101530003\n(01)09501101530003(37)5\n(17)261231(01)09501101530003(17)271231(401)A1\n(01)09501101530003(422)281(3912)0011(8020)1(415)9501101530003\n")
     found = ["01 excludes 37; 37 needs 02 or 8026", "17: 261231 and 271231 differ; 401: A1 is no GS1 Company Prefix",
              "422: 281 is no country; 3912: 001 is no currency"]
@@ -124,8 +128,10 @@ PLAIN = "".join(f"{it}\n" for it in [
     (PLAIN, True), (PLAIN + "9501101530003", True), (PLAIN * 70, True), ("EAN\n" + PLAIN, False), (PLAIN + "Öl\n", False), (PLAIN + '"\n', False),
     ("x;y\n" * 9 + PLAIN, False), (PLAIN[:1400], False),
 ], ids=["plain", "no end", "long", "heading", "letters", "quotation mark", "columns", "short"])
-def test_a_long_list_is_read_as_a_short_one(text, is_plain, folder, capsys, monkeypatch):
+def test_a_long_list_is_read_as_a_short_one(text: str, is_plain: bool, folder: Path, capsys: pytest.CaptureFixture[str],
+                                            monkeypatch: pytest.MonkeyPatch) -> None:
     save("a", text)
+    words: Any
     for words in ([], ["--json"], ["--refused"], ["--strict"], ["--ais", "profile", "--strict", "--refused", "--json"]):
         seen, here = [], check.is_plain
         monkeypatch.setattr(check, "is_plain", lambda *given: seen.append(here(*given)) or seen[0])
@@ -135,7 +141,7 @@ def test_a_long_list_is_read_as_a_short_one(text, is_plain, folder, capsys, monk
         monkeypatch.setattr(check, "is_plain", here)
 
 
-def test_a_list_of_numbers_alone_may_have_any_length(folder, capsys, monkeypatch):
+def test_a_list_of_numbers_alone_may_have_any_length(folder: Path, capsys: pytest.CaptureFixture[str], monkeypatch: pytest.MonkeyPatch) -> None:
     for module in (_plain, _lists):
         monkeypatch.setattr(module, "LIMIT", 300_000)
     save("a", "9501101530003\n" * 50_000)
@@ -146,7 +152,7 @@ def test_a_list_of_numbers_alone_may_have_any_length(folder, capsys, monkeypatch
     assert status == 1 and err == [f"a:{len(out) + 1}: the list has more than 300,000 bytes: split it"]
 
 
-def test_check_of_standard_input(folder, capsys, monkeypatch):
+def test_check_of_standard_input(folder: Path, capsys: pytest.CaptureFixture[str], monkeypatch: pytest.MonkeyPatch) -> None:
     monkeypatch.setattr("sys.stdin", io.TextIOWrapper(io.BytesIO(b"96385074\n")))
     assert told(["check"], capsys) == (0, ["1\t96385074\t(01)00000096385074"], ["standard input: 1 line, and it is right"])
 
@@ -158,7 +164,8 @@ def test_check_of_standard_input(folder, capsys, monkeypatch):
     (b"x\0", 1, "a.csv:1: there is a byte 0, so this is not text: save the list as CSV in UTF-8"),
     (b"1" * 16_777_217, 1, "a.csv:1: the list has more than 16,777,216 bytes: split it"),
 ])
-def test_what_is_no_list(command, data, status, said, folder, capsys):
+def test_what_is_no_list(command: list[str], data: bytes, status: int, said: str, folder: Path,
+                         capsys: pytest.CaptureFixture[str]) -> None:
     save("a.csv", data)
     found, out, err = told([*command, "a.csv"], capsys)
     assert (found, out, err[0]) == (status, [], said)
@@ -183,7 +190,7 @@ def test_what_is_no_list(command, data, status, said, folder, capsys):
     (["labels", "a.csv", "--bars", "high"], None),
     (["read", "b.png"], "b.png: No such file or directory"),
 ])
-def test_wrong_words(words, said, folder, capsys):
+def test_wrong_words(words: list[str], said: str | None, folder: Path, capsys: pytest.CaptureFixture[str]) -> None:
     save("a.csv", LIST)
     status, out, err = told(words, capsys)
     assert (status, out, len(err)) == (2, [], 1) and (said is None or err == [said])
@@ -194,7 +201,7 @@ def test_wrong_words(words, said, folder, capsys):
 
 @pytest.mark.parametrize("form, begins", [
     ("pdf", b"%PDF-"), ("svg", b"<svg "), ("png", b"\x89PNG"), ("zpl", b"~DG"), ("epl", b"\nN\n"), ("tspl", b"SIZE 70 mm,37 mm")])
-def test_labels_in_each_form(form, begins, folder, capsys):
+def test_labels_in_each_form(form: str, begins: bytes, folder: Path, capsys: pytest.CaptureFixture[str]) -> None:
     pytest.importorskip("reportlab")
     save("a.csv", LIST)
     status, out, err = told(["labels", "a.csv", "-o", f"b.{form}", "--currency", "€"], capsys)
@@ -205,7 +212,7 @@ def test_labels_in_each_form(form, begins, folder, capsys):
         assert file.read().startswith(begins)
 
 
-def test_pages_of_pictures_are_files(folder, capsys):
+def test_pages_of_pictures_are_files(folder: Path, capsys: pytest.CaptureFixture[str]) -> None:
     pytest.importorskip("reportlab")
     save("a.csv", LIST)
     assert told(["labels", "a.csv", "-o", "b.png", "--stock", "57x32"], capsys)[2][-1] == "2 labels on 2 pages in b-1.png to b-2.png"
@@ -213,7 +220,7 @@ def test_pages_of_pictures_are_files(folder, capsys):
     assert told(["labels", "a.csv", "-o", "-", "--to", "png", "--stock", "57x32"], capsys)[0] == 2
 
 
-def test_a_list_of_excel(folder, capsys):
+def test_a_list_of_excel(folder: Path, capsys: pytest.CaptureFixture[str]) -> None:
     pytest.importorskip("reportlab")
     save("a.csv", "sep=;\r\nEAN;Bezeichnung;VK\r\n9501101530003;Größe;12,99\r\n", "cp1252")
     status, _, err = told(["labels", "a.csv", "-o", "a.svg", "--currency", "€"], capsys)
@@ -223,7 +230,7 @@ def test_a_list_of_excel(folder, capsys):
     assert ">Größe<" in text and ">12,99\xa0€<" in text
 
 
-def test_nothing_is_written_of_a_list_with_a_fault(folder, capsys):
+def test_nothing_is_written_of_a_list_with_a_fault(folder: Path, capsys: pytest.CaptureFixture[str]) -> None:
     pytest.importorskip("reportlab")
     save("a.csv", "gtin\n96385074\n96385075\n96385075\n1\n")
     assert told(["labels", "a.csv", "-o", "a.pdf", "--no-price"], capsys) == (1, [], [
@@ -232,7 +239,7 @@ def test_nothing_is_written_of_a_list_with_a_fault(folder, capsys):
     assert os.listdir() == ["a.csv"]
 
 
-def test_a_list_without_labels(folder, capsys):
+def test_a_list_without_labels(folder: Path, capsys: pytest.CaptureFixture[str]) -> None:
     pytest.importorskip("reportlab")
     for text in ("gtin,copies\n96385074,0\n", "ean;name;EK;VK\n"):
         save("a.csv", text)
@@ -240,7 +247,7 @@ def test_a_list_without_labels(folder, capsys):
     assert told(["labels", "a.csv", "-o", "a.pdf"], capsys) == (1, [], ["a.csv:1: the list has no labels to print"])
 
 
-def test_of_many_faults_the_first_are_told(folder, capsys):
+def test_of_many_faults_the_first_are_told(folder: Path, capsys: pytest.CaptureFixture[str]) -> None:
     pytest.importorskip("reportlab")
     save("a.csv", "gtin\n" + "".join(f"x{number}\n" for number in range(100)))
     _, _, err = told(["labels", "a.csv", "-o", "a.pdf", "--no-price"], capsys)
@@ -253,7 +260,7 @@ def test_of_many_faults_the_first_are_told(folder, capsys):
 PRICES = "EAN;Artikel;Preis;UVP\n4012345010008;Haferkekse;2,9;3,50\n96385074;Kaugummi;0,90;1,10\n"
 
 
-def test_a_question_about_the_price(folder, capsys):
+def test_a_question_about_the_price(folder: Path, capsys: pytest.CaptureFixture[str]) -> None:
     pytest.importorskip("reportlab")
     save("a.csv", PRICES)
     question = "a.csv:1: 'Preis', 'UVP' may each be the price on the shelf: say which it is, as in --column price='Preis', or --no-price"
@@ -274,13 +281,13 @@ def test_a_question_about_the_price(folder, capsys):
     (["--encoding", "klingon"], "noriladle labels: argument --encoding: 'klingon' is none of utf-8, utf-16, cp1252, cp1250, cp850, mac_roman; "
      "see noriladle labels --help"),
 ])
-def test_wrong_answers(words, said, folder, capsys):
+def test_wrong_answers(words: list[str], said: str, folder: Path, capsys: pytest.CaptureFixture[str]) -> None:
     pytest.importorskip("reportlab")
     save("a.csv", PRICES)
     assert told(["labels", "a.csv", "-o", "a.pdf", *words], capsys)[2] == [said] and os.listdir() == ["a.csv"]
 
 
-def test_free_articles(folder, capsys):
+def test_free_articles(folder: Path, capsys: pytest.CaptureFixture[str]) -> None:
     pytest.importorskip("reportlab")
     save("a.csv", "ean;price\n96385074;0\n")
     assert told(["labels", "a.csv", "-o", "a.svg"], capsys)[2][0] == (
@@ -288,7 +295,7 @@ def test_free_articles(folder, capsys):
     assert told(["labels", "a.csv", "-o", "a.svg", "--free"], capsys)[0] == 0
 
 
-def test_lines_that_are_left_out(folder, capsys):
+def test_lines_that_are_left_out(folder: Path, capsys: pytest.CaptureFixture[str]) -> None:
     pytest.importorskip("reportlab")
     save("a.csv", "ean;name;price\n4012345010008;Kekse;2,90\n96385075;a;1\n96385074;שלום;1\n9501101530003;b;x\n012345000065;c;1\n012345000065;d;1\n")
     status, out, err = told(["labels", "a.csv", "-o", "a.svg", "--leave-out"], capsys)
@@ -300,7 +307,7 @@ def test_lines_that_are_left_out(folder, capsys):
     assert sorted(os.listdir()) == ["a.csv", "a.svg"]
 
 
-def test_a_list_is_corrected(folder, capsys):
+def test_a_list_is_corrected(folder: Path, capsys: pytest.CaptureFixture[str]) -> None:
     cells = ['"=""4012345010008"""', "'4012345010008", "EAN: 4012345010008", "4,012345010008E+12", "12345000065", "3-16-148410-X", "４０１２３４５０１０００８",
              "978-3-16-148410-0", '="00000000"', "4012345010375"]
     save("a.csv", "Preisliste;\nEAN;Name\n" + "".join(f"{cell};x\n" for cell in cells) + "Summe;\n")
@@ -316,6 +323,15 @@ def test_a_list_is_corrected(folder, capsys):
         assert told(["check", "a.csv", *words], capsys) == (2, [], ["noriladle: --fix and -o FILE go together: write both, as in --fix -o fixed.csv"])
 
 
+def test_links_of_a_list(folder: Path, capsys: pytest.CaptureFixture[str]) -> None:
+    save("a.csv", "4012345010008\n(10)AB\n(01)09501101530003(10)A/1\n4012345010009\n")
+    status, out, _ = told(["check", "a.csv", "--link", "https://x.de/"], capsys)
+    assert status == 1 and [line.split("\t")[3] for line in out[:3]] == ["https://x.de/01/04012345010008", "", "https://x.de/01/09501101530003/10/A%2F1"]
+    links = [json.loads(line).get("link") for line in told(["check", "a.csv", "--link", "https://x.de", "--json"], capsys)[1]]
+    assert links == ["https://x.de/01/04012345010008", None, "https://x.de/01/09501101530003/10/A%2F1", None]
+    assert told(["check", "a.csv", "--link", "x.de"], capsys) == (2, [], ["noriladle: --link takes the beginning of a web address, as https://id.gs1.org"])
+
+
 @pytest.mark.parametrize("text, told_of", [
     ("401234500002", "it may be 4012345000023, if its check digit is missing; 401234500005, if the last digit is wrong"),
     ("4O12345010008", "'O' is the letter O: write a zero, as in 4012345010008"), ("316148410X", "an ISBN of ten digits: write 9783161484100"),
@@ -323,13 +339,13 @@ def test_a_list_is_corrected(folder, capsys):
     ("1234565", "]E401234565 is right; it may also be 12345656, if its check digit is missing"), ("0000000000000", "a number of zeros alone"),
     ("4012345010009", "a digit is wrong; if it is the last one, 4012345010008 is right"), ("4.01234501E+12", "has rounded it"),
 ])
-def test_advice(text, told_of, folder, capsys):
+def test_advice(text: str, told_of: str, folder: Path, capsys: pytest.CaptureFixture[str]) -> None:
     save("a", f"{text}\n")
     status, (line,), _ = told(["check", "a"], capsys)
     assert status == 1 and told_of in line
 
 
-def test_german_where_the_machine_speaks_it(folder, capsys, monkeypatch):
+def test_german_where_the_machine_speaks_it(folder: Path, capsys: pytest.CaptureFixture[str], monkeypatch: pytest.MonkeyPatch) -> None:
     pytest.importorskip("reportlab")
     monkeypatch.setenv("LC_ALL", "de_AT.UTF-8")
     save("a.csv", PRICES.replace("96385074", "96385075"))
@@ -348,12 +364,12 @@ def test_german_where_the_machine_speaks_it(folder, capsys, monkeypatch):
     assert told(["labels", "a.csv", "-o", "a.pdf"], capsys)[2][0].startswith("a.csv:1: 'Preis', 'UVP' may each")
 
 
-def test_stocks(capsys):
+def test_stocks(capsys: pytest.CaptureFixture[str]) -> None:
     status, out, _ = told(["labels", "--stocks"], capsys)
     assert status == 0 and "L7160\t3x7:63.5x38.1+2.54+0" in out and "11354\t57x32" in out
 
 
-def test_all_files_or_none_are_written(folder):
+def test_all_files_or_none_are_written(folder: Path) -> None:
     from pathlib import Path
     save("b", "old")
     # The third file has no folder.
@@ -374,7 +390,7 @@ def test_all_files_or_none_are_written(folder):
     assert [open(name).read() for name in "ab"] == ["1", "2"] and sorted(os.listdir()) == ["a", "b"]
 
 
-def test_links_and_devices_stay_what_they_are(folder):
+def test_links_and_devices_stay_what_they_are(folder: Path) -> None:
     from pathlib import Path
     save("a", "old")
     os.symlink("a", "link")
@@ -386,10 +402,10 @@ def test_links_and_devices_stay_what_they_are(folder):
         write_files([(Path("folder.pdf"), b"1")])
 
 
-def test_a_full_disk(folder):
+def test_a_full_disk(folder: Path) -> None:
     pytest.importorskip("reportlab")
     save("a.csv", LIST)
-    how = {"stderr": subprocess.PIPE, "text": True, "env": {**os.environ, "PYTHONPATH": os.pathsep.join(sys.path)}}
+    how: dict[str, Any] = {"stderr": subprocess.PIPE, "text": True, "env": {**os.environ, "PYTHONPATH": os.pathsep.join(sys.path)}}
     with open("/dev/full", "wb") as full:
         done = subprocess.run([sys.executable, "-m", "noriladle", "labels", "a.csv", "--to", "pdf", "-o", "-"], stdout=full, **how)
     assert done.returncode == 1 and done.stderr.endswith("No space left on device\n")
@@ -400,7 +416,7 @@ def test_a_full_disk(folder):
 # ---- read
 
 @pytest.fixture
-def picture(folder):
+def picture(folder: Path) -> Any:
     """A picture of an EAN-13, as Pillow's image."""
     pytest.importorskip("numpy")
     Image = pytest.importorskip("PIL.Image")
@@ -413,7 +429,7 @@ LINE = "]E0\t(01)09501101530003"
 
 
 @pytest.mark.parametrize("name", ["a.png", "a.jpg", "a.tif", "a.bmp", "a.gif", "a.webp", "a.pgm", "a.ppm"])
-def test_reads_each_format(name, picture, capsys):
+def test_reads_each_format(name: str, picture: Any, capsys: pytest.CaptureFixture[str]) -> None:
     picture.save(name)
     status, out, err = told(["read", name], capsys)
     assert (status, err) == (0, []) and [line.rsplit("\t", 1)[0] for line in out] == [f"{name}\t{LINE}"]
@@ -422,12 +438,12 @@ def test_reads_each_format(name, picture, capsys):
     assert abs(left - 22) < 3 and abs(right - 212) < 3 and top < 10 and bottom > 100
 
 
-def test_reads_the_pages_of_a_tiff(picture, capsys):
+def test_reads_the_pages_of_a_tiff(picture: Any, capsys: pytest.CaptureFixture[str]) -> None:
     picture.save("a.tif", save_all=True, append_images=[picture.rotate(180), picture])
     assert [line.rsplit("\t", 1)[0] for line in told(["read", "a.tif"], capsys)[1]] == [f"a.tif:{page}\t{LINE}" for page in (1, 2, 3)]
 
 
-def test_after_a_damaged_page_no_other_is_told(picture, capsys):
+def test_after_a_damaged_page_no_other_is_told(picture: Any, capsys: pytest.CaptureFixture[str]) -> None:
     picture.save("a.tif", save_all=True, append_images=[picture] * 4, compression="tiff_deflate")
     with pytest.importorskip("PIL.Image").open("a.tif") as image:
         image.seek(2)
@@ -441,12 +457,13 @@ def test_after_a_damaged_page_no_other_is_told(picture, capsys):
 
 
 @pytest.mark.parametrize("processors, room, at_once", [(1, 100, 1), (3, 100, 3), (8, 2.5, 2), (8, 1.5, 1)])
-def test_reads_pages_side_by_side_in_the_room_of_one_picture(processors, room, at_once, picture, capsys, monkeypatch):
+def test_reads_pages_side_by_side_in_the_room_of_one_picture(processors: int, room: float, at_once: int, picture: Any,
+                                                             capsys: pytest.CaptureFixture[str], monkeypatch: pytest.MonkeyPatch) -> None:
     picture.save("a.pdf", resolution=72, save_all=True, append_images=[picture] * 9)
     pixels = picture.width * picture.height * (300 / 72) ** 2
     running, most, turn = [], [], threading.Condition()
 
-    def read(image, year, ais):
+    def read(image: object, year: float | str, ais: str) -> Symbols:
         with turn:
             running.append(image)
             most.append(len(running))
@@ -464,13 +481,13 @@ def test_reads_pages_side_by_side_in_the_room_of_one_picture(processors, room, a
     assert max(most) == at_once
 
 
-def test_reads_a_pdf_file(picture, capsys):
+def test_reads_a_pdf_file(picture: Any, capsys: pytest.CaptureFixture[str]) -> None:
     picture.save("a.pdf", resolution=72)
     status, out, err = told(["read", "a.pdf"], capsys)
     assert (status, err) == (0, []) and out[0].startswith(f"a.pdf:1\t{LINE}\t")
 
 
-def test_read_as_json(picture, capsys):
+def test_read_as_json(picture: Any, capsys: pytest.CaptureFixture[str]) -> None:
     picture.save("a.png")
     status, out, _ = told(["read", "--json", "a.png"], capsys)
     it = json.loads(out[0])
@@ -479,9 +496,9 @@ def test_read_as_json(picture, capsys):
     assert "page" not in it
 
 
-def png(width, height):
+def png(width: int, height: int) -> bytes:
     """The head of a PNG that says it has this many pixels."""
-    def chunk(name, data):
+    def chunk(name: bytes, data: bytes) -> bytes:
         return struct.pack(">I", len(data)) + name + data + struct.pack(">I", zlib.crc32(name + data))
     return b"\x89PNG\r\n\x1a\n" + chunk(b"IHDR", struct.pack(">IIBBBBB", width, height, 8, 0, 0, 0, 0)) + chunk(b"IDAT", zlib.compress(b"\0" * 100))
 
@@ -496,16 +513,16 @@ def png(width, height):
     (png(20_000, 20_000), 1, "refused 44 InputSize: a picture of more than 100,000,000 pixels is not read"),
     (png(10_001, 10_000), 1, "refused 44 InputSize"),
 ])
-def test_what_is_no_picture(data, status, said, picture, capsys):
+def test_what_is_no_picture(data: bytes, status: int, said: str, picture: Any, capsys: pytest.CaptureFixture[str]) -> None:
     save("a", data)
     found, out, err = told(["read", "a"], capsys)
     assert (found, out, len(err)) == (status, [], 1) and err[0].startswith(f"a: {said}")
 
 
-def test_no_other_program_runs_for_a_picture(picture, capsys, monkeypatch):
+def test_no_other_program_runs_for_a_picture(picture: Any, capsys: pytest.CaptureFixture[str], monkeypatch: pytest.MonkeyPatch) -> None:
     from PIL import EpsImagePlugin
 
-    def run(*_):
+    def run(*_: tuple[str, int]) -> NoReturn:
         raise AssertionError("Ghostscript was asked for")
     monkeypatch.setattr(EpsImagePlugin, "Ghostscript", run)
     picture.convert("RGB").save("a.eps")
@@ -515,7 +532,7 @@ def test_no_other_program_runs_for_a_picture(picture, capsys, monkeypatch):
         noriladle.read_picture("a.eps", 2026)
 
 
-def test_a_cut_picture_does_not_stop_the_others(picture, capsys):
+def test_a_cut_picture_does_not_stop_the_others(picture: Any, capsys: pytest.CaptureFixture[str]) -> None:
     picture.save("a.png")
     with open("a.png", "rb") as file:
         data = file.read()
@@ -530,7 +547,7 @@ def test_a_cut_picture_does_not_stop_the_others(picture, capsys):
         "docs/PICTURES.md says what a picture needs"])
 
 
-def test_damaged_pictures_are_told(picture, capsys):
+def test_damaged_pictures_are_told(picture: Any, capsys: pytest.CaptureFixture[str]) -> None:
     import random
     chance = random.Random(1)
     for name in ("a.png", "a.jpg", "a.tif", "a.gif", "a.bmp", "a.webp"):
@@ -547,13 +564,13 @@ def test_damaged_pictures_are_told(picture, capsys):
             assert all(line.split("\t")[2] == "(01)09501101530003" for line in out)
 
 
-def test_a_pdf_without_poppler(picture, capsys, monkeypatch):
+def test_a_pdf_without_poppler(picture: Any, capsys: pytest.CaptureFixture[str], monkeypatch: pytest.MonkeyPatch) -> None:
     picture.save("a.pdf")
     monkeypatch.setattr("shutil.which", lambda name: None)
     assert told(["read", "a.pdf"], capsys) == (2, [], ["a.pdf: pages of PDF files are drawn by pdftoppm: apt-get install poppler-utils"])
 
 
-def test_progress_is_for_terminals(monkeypatch, capsys):
+def test_progress_is_for_terminals(monkeypatch: pytest.MonkeyPatch, capsys: pytest.CaptureFixture[str]) -> None:
     progress = commands.Progress()
     progress("half", at_once=True)
     assert capsys.readouterr().err == ""
@@ -564,7 +581,7 @@ def test_progress_is_for_terminals(monkeypatch, capsys):
     assert capsys.readouterr().err == "\rone\r   \r"
 
 
-def test_progress_from_the_second_page_on(picture, capsys, monkeypatch):
+def test_progress_from_the_second_page_on(picture: Any, capsys: pytest.CaptureFixture[str], monkeypatch: pytest.MonkeyPatch) -> None:
     picture.save("a.tif", save_all=True, append_images=[picture])
     monkeypatch.setattr(sys.stderr, "isatty", lambda: True)
     assert main(["read", "a.tif"]) == 0

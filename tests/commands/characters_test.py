@@ -1,5 +1,7 @@
 """Each byte in an element string: the 82 characters of a value, the two separators, and all else."""
 
+from __future__ import annotations
+
 from element_strings import X
 from program import CommandTest, field
 
@@ -12,14 +14,14 @@ OTHER = [chr(number) for number in range(128, 256)] + list("\u0100\u07ff\u0800\u
 
 
 class CharactersTest(CommandTest):
-    def checks(self, cases):
+    def checks(self, cases: list[tuple[str, str]]) -> None:
         """That texts have these lines."""
         self.gives_lines("check --year 2026", [(f"text,{field(text)}", line) for text, line in cases])
 
-    def test_there_are_82(self):
+    def test_there_are_82(self) -> None:
         self.assertEqual((len(X), len(set(X))), (82, 82))
 
-    def test_within_a_value(self):
+    def test_within_a_value(self) -> None:
         cases = []
         for it in ASCII + OTHER:
             if it in X:
@@ -29,21 +31,21 @@ class CharactersTest(CommandTest):
             cases.append((f"10A{it}21B", line))
         self.checks(cases)
 
-    def test_first_in_a_value(self):
+    def test_first_in_a_value(self) -> None:
         cases = []
         for it in ASCII + OTHER:
             fault = "refused 6 ValueLength 0" if it in SEPARATORS else "refused 7 ValueCharacter 0"
             cases.append((f"10{it}A", f"hri (10){it}A" if it in X else fault))
         self.checks(cases)
 
-    def test_last_in_a_value(self):
+    def test_last_in_a_value(self) -> None:
         cases = []
         for it in ASCII + OTHER:
             fault = "hri (10)A" if it in SEPARATORS else "refused 7 ValueCharacter 0"
             cases.append((f"10A{it}", f"hri (10)A{it}" if it in X else fault))
         self.checks(cases)
 
-    def test_in_digits(self):
+    def test_in_digits(self) -> None:
         for front, after, fault in [
             ("4225", "8", "refused 6 ValueLength 0"),
             ("30", "", "refused 6 ValueLength 0"),
@@ -61,7 +63,7 @@ class CharactersTest(CommandTest):
                 cases.append((f"{front}{it}{after}", line))
             self.checks(cases)
 
-    def test_in_place_of_an_identifier(self):
+    def test_in_place_of_an_identifier(self) -> None:
         others = [it for it in ASCII + OTHER if not it.isascii() or not it.isdigit()]
         self.checks([
             case
@@ -75,7 +77,7 @@ class CharactersTest(CommandTest):
             ]
         ])
 
-    def test_separators(self):
+    def test_separators(self) -> None:
         cases = []
         for it in SEPARATORS:
             cases += [
@@ -94,6 +96,6 @@ class CharactersTest(CommandTest):
             ]
         self.checks(cases)
 
-    def test_bytes_that_are_no_utf_8(self):
+    def test_bytes_that_are_no_utf_8(self) -> None:
         records = b"".join(b"text,10A%c21B\n" % byte for byte in range(128, 256))
         self.gives("check --year 2026", records, 128 * "refused 7 ValueCharacter 0\n")

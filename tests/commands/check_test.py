@@ -1,19 +1,21 @@
 """Texts that are checked: one of each answer and of each refusal, with the line that is printed."""
 
+from __future__ import annotations
+
 from program import CommandTest
 
 
 class CheckTest(CommandTest):
-    def checks(self, given, wanted, year=2026):
+    def checks(self, given: str, wanted: str, year: int = 2026) -> None:
         self.gives(f"check --year {year}", given, wanted)
 
-    def has_lines(self, cases):
+    def has_lines(self, cases: list[tuple[str, str]]) -> None:
         """That each record alone has this line."""
         for record, line in cases:
             with self.subTest(record):
                 self.checks(record, f"{line}\n")
 
-    def test_digits(self):
+    def test_digits(self) -> None:
         self.has_lines([
             ("digit,950110153000", "digit 3"),
             ("digit,0", "digit 0"),
@@ -46,7 +48,7 @@ class CheckTest(CommandTest):
             ("upce,X1234565", "refused 2 NotDigit 0"),
         ])
 
-    def test_element_strings(self):
+    def test_element_strings(self) -> None:
         self.has_lines([
             ("text,0109501101530003", "hri (01)09501101530003"),
             ("text,10AB^17261231", "hri (10)AB(17)261231"),
@@ -99,7 +101,7 @@ class CheckTest(CommandTest):
             ("text,80082601021560", "refused 9 ValueDate 0"),
         ])
 
-    def test_192_bytes_of_text(self):
+    def test_192_bytes_of_text(self) -> None:
         front = "text,91" + 90 * "A" + "^92" + 90 * "A" + "^1"
         hri = "hri (91)" + 90 * "A" + "(92)" + 90 * "A" + "(10)ABCD"
         self.assertEqual(len(front + "0ABCD"), len("text,") + 192)
@@ -109,15 +111,15 @@ class CheckTest(CommandTest):
             (front + "##^^##", "refused 11 TooLong"),
         ])
 
-    def test_dates_by_the_year(self):
+    def test_dates_by_the_year(self) -> None:
         self.checks("text,17000229", "hri (17)000229\n", 2026)
         self.checks("text,17000229", "refused 9 ValueDate 0\n", 2060)
 
-    def test_16777216_bytes_of_input(self):
+    def test_16777216_bytes_of_input(self) -> None:
         self.checks(16_777_216 * "\n", "")
         self.checks(16_777_217 * "\n", "refused 44 InputSize")
 
-    def test_records_in_order(self):
+    def test_records_in_order(self) -> None:
         for given, wanted in [
             ("", ""),
             ("\n\n", ""),

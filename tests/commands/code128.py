@@ -1,5 +1,7 @@
 """Characters of Code 128, as the standard prints them, and symbols of them."""
 
+from __future__ import annotations
+
 import re
 
 from rows import runs
@@ -28,18 +30,18 @@ TO_C, TO_B, TO_A = 99, 100, 101
 FNC1 = 102
 
 
-def check_character(start, values):
+def check_character(start: int, values: list[int]) -> int:
     """The check character of these values."""
     return (start + sum(place * value for place, value in enumerate(values, 1))) % 103
 
 
-def symbol(start, values, check=None):
+def symbol(start: int, values: list[int], check: int | None = None) -> str:
     """The widths of a symbol of these values, in groups: its check character is right unless you give one."""
     check = check_character(start, values) if check is None else check
     return " ".join([*(PATTERNS[value] for value in [start, *values, check]), STOP])
 
 
-def encoded(text):
+def encoded(text: str) -> list[int]:
     """The values that a text, with ^ for each separator, is printed with after start C and the first FNC1."""
     values, set_c, place = [], True, 0
     while place < len(text):
@@ -59,6 +61,6 @@ def encoded(text):
     return values
 
 
-def row(groups):
+def row(groups: str) -> list[int]:
     """The row of a symbol, between light ends of ten modules."""
     return [10, *runs(groups), 10]

@@ -1,6 +1,9 @@
 """Code 128: every pattern, and what every value means in each code set."""
 
+from __future__ import annotations
+
 import itertools
+from typing import Iterable
 
 from code128 import A, B, C, FNC1, PATTERNS, SHIFT, STOP, TO_A, TO_B, TO_C, check_character, encoded, row, symbol
 from element_strings import X
@@ -24,24 +27,24 @@ SHIFTED = "refused 16 CodeSet"
 PATTERN = "refused 23 Pattern"
 
 
-def in_set_a(value):
+def in_set_a(value: int) -> str:
     """The character of a value below 96 in set A."""
     return chr(value + 32) if value < 64 else chr(value - 64)
 
 
-def in_set_b(value):
+def in_set_b(value: int) -> str:
     """The character of a value below 96 in set B."""
     return chr(value + 32)
 
 
-def answer(value):
+def answer(value: str) -> str:
     """What is answered to AI 91 with this value, in which the letter A stands before and after another character."""
     if value[1] == "\x1d":
         return "refused 5 UnknownAi 4"
     return f"]C1 (91){value}" if set(value) <= set(X) else "refused 7 ValueCharacter 0"
 
 
-def widths_of(count, modules):
+def widths_of(count: int, modules: int) -> list[str]:
     """All choices of this many widths of 1 to 4 with this sum."""
     return ["".join(map(str, it)) for it in itertools.product(range(1, 5), repeat=count) if sum(it) == modules]
 
@@ -49,13 +52,13 @@ def widths_of(count, modules):
 class ValuesTest(RowTest):
     """A test of values."""
 
-    def reads_symbols(self, cases):
+    def reads_symbols(self, cases: Iterable[tuple[int, list[int], str]]) -> None:
         """That symbols have these answers: their start, values after it, and answer."""
         self.reads([(row(symbol(start, values)), told) for start, values, told in cases])
 
 
 class PatternsTest(ValuesTest):
-    def test_each_value_as_data(self):
+    def test_each_value_as_data(self) -> None:
         self.reads_symbols([
             *((C, [*ANY_C, value], f"]C1 (91){value:02}") for value in range(100)),
             (C, [*ANY_C, 11, TO_B, LETTER], "]C1 (91)11A"),
@@ -63,15 +66,15 @@ class PatternsTest(ValuesTest):
             (C, [FNC1, 20, 11, FNC1, 10, 12], "]C1 (20)11(10)12"),
         ])
 
-    def test_each_value_as_check_character(self):
-        found = {}
+    def test_each_value_as_check_character(self) -> None:
+        found: dict[int, tuple[int, list[int], str]] = {}
         for first, second in itertools.product(range(100), repeat=2):
             values = [*ANY_C, first, second]
             found.setdefault(check_character(C, values), (C, values, f"]C1 (91){first:02}{second:02}"))
         self.assertEqual(len(found), 103)
         self.reads_symbols(found.values())
 
-    def test_each_wrong_check_character(self):
+    def test_each_wrong_check_character(self) -> None:
         values = [*ANY_C, 12]
         right = check_character(C, values)
         self.reads([
@@ -79,7 +82,7 @@ class PatternsTest(ValuesTest):
             for check in range(103)
         ])
 
-    def test_widths_of_no_character(self):
+    def test_widths_of_no_character(self) -> None:
         start, fnc1, ai, data, check = symbol(C, [*ANY_C, 12]).split()[:-1]
         others = sorted(set(widths_of(6, 11)) - set(PATTERNS))
         self.assertEqual(len(others), 110)
@@ -97,18 +100,18 @@ class PatternsTest(ValuesTest):
             (row(" ".join([widths, fnc1, ai, data, check, STOP])), PATTERN) for widths in [*others, *PATTERNS[:103]]
         ])
 
-    def test_other_ends(self):
+    def test_other_ends(self) -> None:
         characters = symbol(C, [*ANY_C, 12]).split()[:-1]
         self.reads([(row(" ".join([*characters, it])), PATTERN) for it in widths_of(7, 13) if it != STOP])
 
-    def test_the_first_value(self):
+    def test_the_first_value(self) -> None:
         self.reads_symbols([
             (start, [value, FNC1], "refused 14 NotGs1") for start in [A, B, C] for value in range(102)
         ])
 
 
 class MeaningsTest(ValuesTest):
-    def test_each_value_in_set_a(self):
+    def test_each_value_in_set_a(self) -> None:
         self.reads_symbols([
             *((A, [*ANY, LETTER, value, LETTER], answer(f"A{in_set_a(value)}A")) for value in range(96)),
             (A, [*ANY, LETTER, 96, LETTER], FUNCTION),
@@ -120,7 +123,7 @@ class MeaningsTest(ValuesTest):
             (A, [*ANY, LETTER, FNC1, LETTER], "refused 5 UnknownAi 4"),
         ])
 
-    def test_each_value_in_set_b(self):
+    def test_each_value_in_set_b(self) -> None:
         self.reads_symbols([
             *((B, [*ANY, LETTER, value, LETTER], answer(f"A{in_set_b(value)}A")) for value in range(96)),
             (B, [*ANY, LETTER, 96, LETTER], FUNCTION),
@@ -132,7 +135,7 @@ class MeaningsTest(ValuesTest):
             (B, [*ANY, LETTER, FNC1, LETTER], "refused 5 UnknownAi 4"),
         ])
 
-    def test_each_value_in_set_c(self):
+    def test_each_value_in_set_c(self) -> None:
         self.reads_symbols([
             *((C, [*ANY_C, 11, value, LETTER], f"]C1 (91)11{value:02}33") for value in range(100)),
             (C, [*ANY_C, 11, TO_B, LETTER], "]C1 (91)11A"),
@@ -141,7 +144,7 @@ class MeaningsTest(ValuesTest):
             (C, [*ANY_C, 11, SHIFT], "]C1 (91)1198"),
         ])
 
-    def test_each_value_after_shift(self):
+    def test_each_value_after_shift(self) -> None:
         self.reads_symbols([
             case
             for value in range(96)
@@ -154,7 +157,7 @@ class MeaningsTest(ValuesTest):
             (start, [*ANY, LETTER, SHIFT, value, LETTER], SHIFTED) for start in [A, B] for value in range(96, 103)
         ])
 
-    def test_shift_is_for_one_value(self):
+    def test_shift_is_for_one_value(self) -> None:
         self.reads_symbols([
             (A, [*ANY, SHIFT, LOWER, LETTER, BYTE_29, *NEXT], "]C1 (91)aA(20)11"),
             (A, [*ANY, SHIFT, LOWER, LOWER], "refused 7 ValueCharacter 0"),
@@ -169,7 +172,7 @@ class MeaningsTest(ValuesTest):
             (B, [FNC1, SHIFT], SHIFTED),
         ])
 
-    def test_changes_of_code_set(self):
+    def test_changes_of_code_set(self) -> None:
         self.reads_symbols([
             # Value 65 is a control character in set A, the letter a in B, and digits in C.
             (A, [*ANY, LETTER, LOWER], "refused 7 ValueCharacter 0"),
@@ -205,7 +208,7 @@ class MeaningsTest(ValuesTest):
             (C, [*ANY_C, 11, TO_B], "]C1 (91)11"),
         ])
 
-    def test_the_first_fault(self):
+    def test_the_first_fault(self) -> None:
         self.reads_symbols([
             (A, [FNC1, 96, SHIFT], FUNCTION),
             (A, [FNC1, SHIFT, 96], SHIFTED),
@@ -224,30 +227,30 @@ class MeaningsTest(ValuesTest):
 
 
 class PrintedTest(SymbolTest):
-    def has_values(self, cases):
+    def has_values(self, cases: Iterable[tuple[str, list[int]]]) -> None:
         """That texts print with these values after start C and FNC1."""
         self.prints(512, [
             (f"gs1128,{field(text)}", dots_of(10, symbol(C, [FNC1, *values]), 512)) for text, values in cases
         ])
 
-    def test_each_pair_of_digits(self):
+    def test_each_pair_of_digits(self) -> None:
         self.has_values([(f"91{value:02}", [91, value]) for value in range(100)])
 
-    def test_each_character(self):
+    def test_each_character(self) -> None:
         # Between letters, so that a digit has no digit beside it.
         self.has_values([
             (f"91a{character}b", [91, TO_B, 65, ord(character) - 32, 66]) for character in X
         ])
 
-    def test_each_check_character(self):
-        found = {}
+    def test_each_check_character(self) -> None:
+        found: dict[int, tuple[str, list[int]]] = {}
         for first, second in itertools.product(range(100), repeat=2):
             check = check_character(C, [FNC1, 91, first, second])
             found.setdefault(check, (f"91{first:02}{second:02}", [91, first, second]))
         self.assertEqual(len(found), 103)
         self.has_values(found.values())
 
-    def test_the_choice_of_code_sets(self):
+    def test_the_choice_of_code_sets(self) -> None:
         texts = [
             ("0109501101530003", [1, 9, 50, 11, 1, 53, 0, 3]),
             ("422528", [42, 25, 28]),
@@ -280,7 +283,7 @@ class PrintedTest(SymbolTest):
             with self.subTest(text):
                 self.assertEqual(encoded(text), values)
 
-    def test_separators_that_are_not_needed(self):
+    def test_separators_that_are_not_needed(self) -> None:
         self.has_values([
             ("2011^10A^", [20, 11, 10, TO_B, 33]),
             ("0109501101530003^10A", [1, 9, 50, 11, 1, 53, 0, 3, 10, TO_B, 33]),

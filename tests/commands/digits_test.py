@@ -1,5 +1,7 @@
 """Numbers: check digits of every length, the lengths of a GTIN, and the six digits of UPC-E."""
 
+from __future__ import annotations
+
 from element_strings import check_digit
 from program import CommandTest
 
@@ -18,18 +20,18 @@ EXPANSIONS = {
 }
 
 
-def expanded(six):
+def expanded(six: str) -> str:
     """The twelve digits of six digits of UPC-E."""
     payload = EXPANSIONS[six[5]].translate(str.maketrans("abcdef", six))
     return payload + check_digit(payload)
 
 
 class DigitsTest(CommandTest):
-    def checks(self, cases):
+    def checks(self, cases: list[tuple[str, str]]) -> None:
         """That records have these lines."""
         self.gives_lines("check --year 2026", cases)
 
-    def test_check_digits_of_each_length(self):
+    def test_check_digits_of_each_length(self) -> None:
         # Worked by hand from the weights 3, 1, 3, .. from the right.
         self.checks([
             ("digit,7", "digit 9"),
@@ -51,7 +53,7 @@ class DigitsTest(CommandTest):
             ("digit,10614141234567890", "digit 8"),
         ])
 
-    def test_the_weight_of_each_digit(self):
+    def test_the_weight_of_each_digit(self) -> None:
         # One digit among zeros, at each place of each length.
         cases = []
         for length in range(1, 18):
@@ -60,7 +62,7 @@ class DigitsTest(CommandTest):
                     cases.append((f"digit,{digit * 10**place:0{length}}", f"digit {checks[place % 2]}"))
         self.checks(cases)
 
-    def test_the_lengths_of_digits(self):
+    def test_the_lengths_of_digits(self) -> None:
         self.checks([
             (f"digit,{length * '0'}", "digit 0" if 1 <= length <= 17 else "refused 1 Length") for length in range(40)
         ])
@@ -73,7 +75,7 @@ class DigitsTest(CommandTest):
             for length in range(40)
         ])
 
-    def test_the_lengths_come_first(self):
+    def test_the_lengths_come_first(self) -> None:
         self.checks([
             ("digit,X12345678901234567", "refused 1 Length"),
             ("digit,X2345678901234567", "refused 2 NotDigit 0"),
@@ -84,7 +86,7 @@ class DigitsTest(CommandTest):
             ("upce,11234564", "refused 1 Length"),
         ])
 
-    def test_a_byte_that_is_no_digit(self):
+    def test_a_byte_that_is_no_digit(self) -> None:
         # At each place, and each byte that stands beside the digits, or is one of another kind.
         others = ["/", ":", " ", "-", "+", "a", "\u0660", "\uff11"]
         self.checks([
@@ -101,7 +103,7 @@ class DigitsTest(CommandTest):
         ])
         self.checks([(f"digit,{it}", "refused 2 NotDigit 0") for it in others])
 
-    def test_each_check_digit_of_a_gtin(self):
+    def test_each_check_digit_of_a_gtin(self) -> None:
         cases = []
         for payload in ["9638507", "01234500006", "950110153000", "1950110153000"]:
             for digit in "0123456789":
@@ -110,7 +112,7 @@ class DigitsTest(CommandTest):
                 cases.append((f"gtin,{text}", f"gtin {text.zfill(14)}" if is_right else "refused 3 CheckDigit"))
         self.checks(cases)
 
-    def test_the_six_digits_of_upce(self):
+    def test_the_six_digits_of_upce(self) -> None:
         cases = []
         for number in range(0, 1_000_000, 1_009):
             six = f"{number:06}"

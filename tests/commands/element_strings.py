@@ -1,5 +1,7 @@
 """The Application Identifiers of the product, the formats of their values, and the characters of these."""
 
+from __future__ import annotations
+
 from collections import namedtuple
 
 # The characters of an alphanumeric value.
@@ -12,12 +14,12 @@ Part = namedtuple("Part", "format least greatest")
 DIGITS, CHECKED, DATE, TIME, ANY = "digits", "checked", "date", "time", "any"
 
 
-def between(first, last):
+def between(first: int, last: int) -> list[str]:
     """The AIs of these numbers."""
     return [str(number) for number in range(first, last + 1)]
 
 
-def with_digits(greatest, *beginnings):
+def with_digits(greatest: int, *beginnings: str) -> list[str]:
     """AIs of a beginning and one more digit, from 0 on."""
     return [f"{beginning}{digit}" for beginning in beginnings for digit in range(greatest + 1)]
 
@@ -63,25 +65,25 @@ PARTS = {ai: parts for identifiers, parts in [
 PREDEFINED = ["00", "01", "02", "03", "04", *between(11, 20), *between(31, 36), "41"]
 
 
-def check_digit(payload):
+def check_digit(payload: str) -> str:
     """The check digit of these digits."""
     weighted = [int(digit) * (1 if place % 2 else 3) for place, digit in enumerate(reversed(payload))]
     return str(-sum(weighted) % 10)
 
 
-def is_predefined(ai):
+def is_predefined(ai: str) -> bool:
     """Whether the AI needs no separator after it."""
     return ai[:2] in PREDEFINED
 
 
-def lengths(ai):
+def lengths(ai: str) -> range:
     """The lengths of its value."""
     parts = PARTS[ai]
     step = 2 if parts[0].format == TIME else 1
     return range(sum(it.least for it in parts), sum(it.greatest for it in parts) + 1, step)
 
 
-def value(ai, length):
+def value(ai: str, length: int) -> str:
     """A value of the AI cut to this length, or with more of the same after it."""
     told = ""
     for part in PARTS[ai]:

@@ -1,5 +1,9 @@
 """Element strings: each AI with its lengths, its characters and its check digits, alone and beside others."""
 
+from __future__ import annotations
+
+from typing import Iterator
+
 from code128 import C, FNC1, encoded, row, symbol
 from element_strings import ANY, CHECKED, PARTS, TIME, check_digit, is_predefined, lengths, value
 from program import CommandTest, field
@@ -13,20 +17,20 @@ CHECKED_PARTS = {ai: parts[0].greatest for ai, parts in PARTS.items() if parts[0
 class TextsTest(CommandTest):
     """A test of texts."""
 
-    def checks(self, cases):
+    def checks(self, cases: list[tuple[str, str]]) -> None:
         """That texts have these lines."""
         self.gives_lines("check --year 2026", [(f"text,{field(text)}", line) for text, line in cases])
 
 
 class TableTest(TextsTest):
-    def test_the_beginnings_of_texts(self):
+    def test_the_beginnings_of_texts(self) -> None:
         # No text of one to four digits has another AI, first or after an element.
         texts = [f"{number:0{count}}" for count in range(1, 5) for number in range(10**count)]
         others = [it for it in texts if not any(it[:count] in PARTS for count in (2, 3, 4))]
         self.checks([(it, "refused 5 UnknownAi 0") for it in others])
         self.checks([(f"2011{it}", "refused 5 UnknownAi 4") for it in others])
 
-    def test_each_length(self):
+    def test_each_length(self) -> None:
         cases = []
         for ai in PARTS:
             taken = lengths(ai)
@@ -43,7 +47,7 @@ class TableTest(TextsTest):
                 cases.append((text, line))
         self.checks(cases)
 
-    def test_each_check_digit(self):
+    def test_each_check_digit(self) -> None:
         cases = []
         for ai, length in CHECKED_PARTS.items():
             payload = "64198250371420579"[: length - 1]
@@ -54,7 +58,7 @@ class TableTest(TextsTest):
                     cases.append((ai + text, f"hri ({ai}){text}" if is_right else "refused 8 ValueCheckDigit 0"))
         self.checks(cases)
 
-    def test_the_weight_of_each_digit(self):
+    def test_the_weight_of_each_digit(self) -> None:
         # A one among zeros weighs 3 or 1, by its place from the right.
         cases = []
         for ai, length in CHECKED_PARTS.items():
@@ -63,7 +67,7 @@ class TableTest(TextsTest):
                 cases.append((ai + digits, f"hri ({ai}){digits}"))
         self.checks(cases)
 
-    def test_a_letter_in_place_of_each_digit(self):
+    def test_a_letter_in_place_of_each_digit(self) -> None:
         cases = []
         for ai, parts in PARTS.items():
             length = sum(it.greatest for it in parts if it.format != ANY)
@@ -72,7 +76,7 @@ class TableTest(TextsTest):
                 cases.append((ai + text[:place] + "A" + text[place + 1 :], "refused 7 ValueCharacter 0"))
         self.checks(cases)
 
-    def test_a_letter_in_each_other_value(self):
+    def test_a_letter_in_each_other_value(self) -> None:
         self.checks([
             (f"{ai}{front}z", f"hri ({ai}){front}z")
             for ai, parts in PARTS.items()
@@ -80,7 +84,7 @@ class TableTest(TextsTest):
             for front in [value(ai, 13) if len(parts) == 2 else ""]
         ])
 
-    def test_the_order_of_faults(self):
+    def test_the_order_of_faults(self) -> None:
         self.checks([
             # The length, the characters, the check digit or the date.
             ("01X", "refused 6 ValueLength 0"),
@@ -104,7 +108,7 @@ class TableTest(TextsTest):
 
 
 class NeighboursTest(TextsTest):
-    def test_before_another_element(self):
+    def test_before_another_element(self) -> None:
         cases = []
         for ai in PARTS:
             text = value(ai, lengths(ai)[-1])
@@ -115,14 +119,14 @@ class NeighboursTest(TextsTest):
             cases.append((f"{ai}{text}^", f"hri ({ai}){text}"))
         self.checks(cases)
 
-    def test_before_digits_that_go_with_the_value(self):
+    def test_before_digits_that_go_with_the_value(self) -> None:
         self.checks([
             (f"{ai}{value(ai, lengths(ai)[0])}2011", f"hri ({ai}){value(ai, lengths(ai)[0])}2011")
             for ai, parts in PARTS.items()
             if not is_predefined(ai) and parts[0].format != TIME and lengths(ai)[-1] >= lengths(ai)[0] + 4
         ])
 
-    def test_after_another_element(self):
+    def test_after_another_element(self) -> None:
         cases = []
         for ai in PARTS:
             text = value(ai, lengths(ai)[0])
@@ -133,17 +137,17 @@ class NeighboursTest(TextsTest):
 
 
 class SymbolsTest(RowTest, SymbolTest):
-    def symbols(self):
+    def symbols(self) -> Iterator[tuple[str, str]]:
         """For each AI a text of it and of (20)11, as it is printed, and what is answered to its symbol."""
         for ai in PARTS:
             text = value(ai, lengths(ai)[0])
             separator = "" if is_predefined(ai) else "^"
             yield f"{ai}{text}{separator}2011", f"]C1 ({ai}){text}(20)11"
 
-    def test_separators_are_read_where_they_are_needed(self):
+    def test_separators_are_read_where_they_are_needed(self) -> None:
         self.reads([(row(symbol(C, [FNC1, *encoded(text)])), answer) for text, answer in self.symbols()])
 
-    def test_separators_are_printed_where_they_are_needed(self):
+    def test_separators_are_printed_where_they_are_needed(self) -> None:
         self.prints(480, [
             (f"gs1128,{text.removesuffix('2011').rstrip('^')}^2011", dots_of(10, symbol(C, [FNC1, *encoded(text)]), 480))
             for text, _ in self.symbols()

@@ -1,5 +1,7 @@
 """The kinds of records: each that a command takes, and words that are nearly one, of the other command or of none."""
 
+from typing import Iterator
+
 from kinds import KINDS
 from program import CommandTest, ran
 from sheets import grid
@@ -26,7 +28,7 @@ OTHERS = """
 """.split()
 
 
-def near(kind):
+def near(kind: str) -> Iterator[str]:
     """Words that are nearly this kind."""
     yield from [kind.upper(), kind.capitalize(), kind.swapcase()[:1] + kind[1:], kind[:-1] + kind[-1].upper()]
     for sign in [" ", "\t", "\u00a0", "-", "\x00", "s", "0"]:
@@ -37,21 +39,21 @@ def near(kind):
 
 
 class KindsTest(CommandTest):
-    def test_each_kind(self):
+    def test_each_kind(self) -> None:
         for command, kinds in [(CHECK, CHECKED), (PRINT, PRINTED)]:
             for kind, (text, line) in kinds.items():
                 with self.subTest(command=command, kind=kind):
                     self.gives(command, f"{kind},{text}\n", line)
                     self.gives(command, f'"{kind}","{text}"\n', line)
 
-    def test_other_words(self):
+    def test_other_words(self) -> None:
         for command, kinds, others in [(CHECK, CHECKED, PRINTED), (PRINT, PRINTED, CHECKED)]:
             words = {"", *OTHERS, *others, *(it for kind in kinds for it in near(kind))} - set(kinds)
             for word in sorted(words):
                 with self.subTest(command=command, word=word):
                     self.is_refused(ran(command, f"{word},9501101530003\n".encode()), "record 0: refused 40 Kind")
 
-    def test_each_label_has_its_numbers(self):
+    def test_each_label_has_its_numbers(self) -> None:
         # Any number has an ITF-14. With a zero before it has an EAN-13, with two a UPC-A, and a UPC-E where its other zeros
         # allow it, and with six an EAN-8.
         for number, kinds in [

@@ -1,5 +1,7 @@
 """Rows that lanes send: records and their faults, and what is answered to rows of each carrier, in both directions."""
 
+from __future__ import annotations
+
 import time
 
 from program import CommandTest
@@ -7,11 +9,11 @@ from rows import EAN8_ROW, GS1128_ROW, SYMBOL, WIDE_SPACE, WRONG_CHECK_DIGIT, ru
 
 
 class RecordsTest(CommandTest):
-    def answers(self, lanes, workers, given, wanted):
+    def answers(self, lanes: int, workers: int, given: str, wanted: str) -> None:
         """That `lanes` by this many workers writes this."""
         self.gives(f"lanes --lanes {lanes} --workers {workers} --year 2026", given, wanted)
 
-    def test_each_row(self):
+    def test_each_row(self) -> None:
         for left, symbol, right, answer in [
             ("11", SYMBOL, "7", "]E0 (01)09501101530003"),
             ("5", SYMBOL, "5", "]E0 (01)09501101530003"),
@@ -25,11 +27,11 @@ class RecordsTest(CommandTest):
             with self.subTest(answer):
                 self.answers(1, 1, f"0,{left} {symbol} {right}\n", f"0 0 {answer}\n")
 
-    def test_blank_rows(self):
+    def test_blank_rows(self) -> None:
         for width in ["0", "100", "65535"]:
             self.answers(1, 1, f"0,{width}", "0 0 refused 19 Blank\n")
 
-    def test_order_by_lane_and_number(self):
+    def test_order_by_lane_and_number(self) -> None:
         for lanes, given, wanted in [
             (1, "", ""),
             (16, "\n\n", ""),
@@ -46,17 +48,17 @@ class RecordsTest(CommandTest):
             "2 0 refused 19 Blank\n2 1 refused 20 RunCount\n",
         )
 
-    def test_eleven_lines_of_a_lane(self):
+    def test_eleven_lines_of_a_lane(self) -> None:
         self.answers(1, 1, 11 * "0,0\n", "".join(f"0 {number} refused 19 Blank\n" for number in range(11)))
 
-    def test_wakes(self):
+    def test_wakes(self) -> None:
         """A worker that nobody wakes sleeps for a second (`REST` in hub_core). Nobody may wait for that at the end of a run."""
         start = time.monotonic()
         for _ in range(30):
             self.answers(1, 4, "0,0\n", "0 0 refused 19 Blank\n")
         self.assertLess(time.monotonic() - start, 15)
 
-    def test_any_number_of_workers(self):
+    def test_any_number_of_workers(self) -> None:
         rows = f"1,{EAN8_ROW}\n2,11 {SYMBOL} 7\n2,100\n2,11 {SYMBOL} 7\n2,{EAN8_ROW}\n2,{GS1128_ROW}\n"
         lines = (
             "1 0 ]E4 (01)00000096385074\n"
@@ -71,7 +73,7 @@ class RecordsTest(CommandTest):
                 self.answers(3, workers, rows, lines)
                 self.answers(3, workers, f"3,11 {SYMBOL} 7\n{rows}", "record 0: refused 41 BadLane")
 
-    def test_faulty_records(self):
+    def test_faulty_records(self) -> None:
         for given, wanted in [
             ("0", "record 0: refused 39 Csv"),
             ("0,100,", "record 0: refused 39 Csv"),
@@ -120,23 +122,23 @@ STOP = "2331112"
 DATE = "211232 411131 123221 212222 222221 322211 124211"
 
 
-def two_widths(groups, narrow, wide):
+def two_widths(groups: str, narrow: int, wide: int) -> list[int]:
     """An element of this many dots for each digit of the groups: narrow for a 1, otherwise wide."""
     return [narrow if digit == 1 else wide for digit in runs(groups)]
 
 
 class RowsTest(CommandTest):
-    def says(self, row, answer, year=2026):
+    def says(self, row: list[int], answer: str, year: int = 2026) -> None:
         """That a row of widths has this answer under the year, in both directions."""
         for widths in [row, row[::-1]]:
             given = "0," + " ".join(map(str, widths))
             self.gives(f"lanes --lanes 1 --workers 1 --year {year}", given, f"0 0 {answer}\n")
 
-    def code128_says(self, characters, answer, year=2026):
+    def code128_says(self, characters: str, answer: str, year: int = 2026) -> None:
         """The same of the Code 128 symbol of these characters, between light ends of ten modules."""
         self.says([10, *runs(f"{characters} {STOP}"), 10], answer, year)
 
-    def test_each_carrier(self):
+    def test_each_carrier(self) -> None:
         for (left, right), groups, answer in [
             ((11, 7), EAN13, "]E0 (01)09501101530003"),
             ((7, 7), EAN8, "]E4 (01)00000096385074"),
@@ -146,7 +148,7 @@ class RowsTest(CommandTest):
             with self.subTest(answer):
                 self.says([left, *runs(groups), right], answer)
 
-    def test_code_128_under_a_year(self):
+    def test_code_128_under_a_year(self) -> None:
         for characters, year, answer in [
             # 43 runs, as an EAN-8 has.
             ("211232 411131 112133 321122 322112 121421", 2026, "]C1 (422)528"),
@@ -160,7 +162,7 @@ class RowsTest(CommandTest):
             with self.subTest(answer):
                 self.code128_says(characters, answer, year)
 
-    def test_what_is_nearly_read(self):
+    def test_what_is_nearly_read(self) -> None:
         for (left, right), groups, dots, answer in [
             # The number sets of the check digit 4 in place of those of 5.
             ((9, 7), "111 1222 2122 1141 2311 1231 1114 111111", 1, "refused 24 SymbolCheckDigit"),
@@ -174,7 +176,7 @@ class RowsTest(CommandTest):
             with self.subTest(answer):
                 self.says([left, *runs(groups, dots), right], answer)
 
-    def test_a_third_of_a_module(self):
+    def test_a_third_of_a_module(self) -> None:
         # At exactly a third of a module, and a dot past it.
         thirds = [21, *runs(EAN8, 3), 21]
         thirds[3:5] = [4, 8]
@@ -183,7 +185,7 @@ class RowsTest(CommandTest):
         halves[3:5] = [3, 5]
         self.says(halves, "refused 22 Modules")
 
-    def test_itf14_in_each_ratio(self):
+    def test_itf14_in_each_ratio(self) -> None:
         for (narrow, wide), end, answer in [
             ((4, 9), 40, "]I1 (01)09501101530003"),
             ((4, 10), 40, "]I1 (01)09501101530003"),
@@ -198,7 +200,7 @@ class RowsTest(CommandTest):
             with self.subTest(narrow=narrow, wide=wide):
                 self.says([end, *two_widths(ITF14, narrow, wide), end], answer)
 
-    def test_wrong_itf14_symbols(self):
+    def test_wrong_itf14_symbols(self) -> None:
         for groups, answer in [
             # The last pair 04 in place of 03.
             (
@@ -213,7 +215,7 @@ class RowsTest(CommandTest):
                 self.says([10, *two_widths(groups, 1, 3), 10], answer)
                 self.says([40, *two_widths(groups, 4, 12), 40], answer)
 
-    def test_rows_of_no_carrier(self):
+    def test_rows_of_no_carrier(self) -> None:
         for width in [0, 100, 65_535]:
             self.says([width], "refused 19 Blank")
         self.says([0, 65_535, 0], "refused 20 RunCount")
@@ -227,7 +229,7 @@ class RowsTest(CommandTest):
             with self.subTest(count=count):
                 self.says([100, *(count * [9]), 100], answer)
 
-    def test_code_128_symbols_by_their_values(self):
+    def test_code_128_symbols_by_their_values(self) -> None:
         for characters, answer in [
             ("211214 411131 411311 111341", "refused 16 CodeSet"),
             ("211214 411131 114131 411113", "refused 15 FunctionCharacter"),
@@ -241,7 +243,7 @@ class RowsTest(CommandTest):
             with self.subTest(characters):
                 self.code128_says(characters, answer)
 
-    def test_the_widest_rows(self):
+    def test_the_widest_rows(self) -> None:
         # 65,427 dots, and 65,535 with a wider light end.
         symbol = runs(EAN13, 579)
         self.says([6369, *symbol, 4053], "]E0 (01)09501101530003")
@@ -249,7 +251,7 @@ class RowsTest(CommandTest):
         wider = "0," + " ".join(map(str, [6369, *symbol, 4162]))
         self.gives("lanes --lanes 1 --workers 1 --year 2026", wider, "record 0: refused 17 TooWide")
 
-    def test_the_longest_symbol(self):
+    def test_the_longest_symbol(self) -> None:
         # 595 runs: 98 start, data and check characters.
         zeros = 45 * " 212222"
         characters = f"211232 411131 221231 231212 412121{zeros} 411131 111143{zeros} 111323"

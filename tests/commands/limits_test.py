@@ -10,13 +10,13 @@ SCAN = "scan --module 1 --width 113 --height 3 --columns 1 --rows 1 --workers 2 
 
 
 class TextsTest(CommandTest):
-    def test_48_elements(self):
+    def test_48_elements(self) -> None:
         self.gives_lines("check --year 2026", [
             ("text," + 48 * "2007", "hri " + 48 * "(20)07"),
             ("text," + 49 * "2007", "refused 11 TooLong"),
         ])
 
-    def test_192_bytes_count_separators(self):
+    def test_192_bytes_count_separators(self) -> None:
         text = 38 * "2007^"
         self.gives_lines("check --year 2026", [
             (f"text,{text}20", "refused 6 ValueLength 190"),
@@ -24,12 +24,12 @@ class TextsTest(CommandTest):
             (f"text,{text[5:]}2007^", "hri " + 38 * "(20)07"),
         ])
 
-    def test_192_bytes_of_a_label(self):
+    def test_192_bytes_of_a_label(self) -> None:
         command = grid(600, 3, 1, 1) + " --text"
         self.gives(command, "gs1128," + 48 * "2007", "refused 26 LabelKind 0")
         self.gives(command, "gs1128," + 48 * "2007" + "2", "record 0: refused 11 TooLong")
 
-    def test_48_characters_of_a_label(self):
+    def test_48_characters_of_a_label(self) -> None:
         # As they are printed: separators that are needed count, and others do not.
         command = grid(600, 3, 1, 1) + " --text"
         for text, hri in [
@@ -52,7 +52,7 @@ class TextsTest(CommandTest):
 
 
 class RowsTest(RowTest):
-    def test_the_numbers_of_runs(self):
+    def test_the_numbers_of_runs(self) -> None:
         # Runs of nine dots are no number of modules of an EAN-13 or a UPC-E, and two modules of a GS1-128. ITF-14, with 77
         # runs, has widths of its own.
         wanted = {33: "refused 22 Modules", 59: "refused 22 Modules"}
@@ -63,7 +63,7 @@ class RowsTest(RowTest):
             if count != 77
         ])
 
-    def test_light_ends_of_five_modules(self):
+    def test_light_ends_of_five_modules(self) -> None:
         cases = []
         for groups, answer in [
             (EAN13[3][1], f"]E0 (01)0{EAN13[3][0]}"),
@@ -79,7 +79,7 @@ class RowsTest(RowTest):
                     cases.append(([left, *inner, right], "refused 21 QuietZone"))
         self.reads(cases)
 
-    def test_light_ends_of_ean8(self):
+    def test_light_ends_of_ean8(self) -> None:
         # A row of as many runs as a GS1-128 of 79 modules has, whose light ends are wide enough from 13 dots on: then it is
         # the widths that this one lacks.
         number, groups = EAN8[1]
@@ -95,12 +95,12 @@ class RowsTest(RowTest):
             ]
         ])
 
-    def test_16_lanes(self):
+    def test_16_lanes(self) -> None:
         command = "lanes --lanes 16 --workers 16 --year 2026"
         self.gives(command, f"15,{EAN8_ROW}\n0,0\n", "0 0 refused 19 Blank\n15 0 ]E4 (01)00000096385074\n")
         self.gives(command, f"15,{EAN8_ROW}\n16,0\n", "record 1: refused 41 BadLane")
 
-    def test_16777216_bytes_of_records(self):
+    def test_16777216_bytes_of_records(self) -> None:
         for command in ["lanes --lanes 1 --workers 1 --year 2026", grid(113, 3, 1, 1), grid(113, 3, 1, 1) + " --text"]:
             with self.subTest(command):
                 self.gives(command, 16_777_216 * b"\n", "")
@@ -108,7 +108,7 @@ class RowsTest(RowTest):
 
 
 class SheetsTest(CommandTest):
-    def test_16384_dots_of_a_sheet(self):
+    def test_16384_dots_of_a_sheet(self) -> None:
         for width, height, columns, rows, wanted in [
             (1024, 3, 16, 1, ""),
             (4096, 3, 4, 1, ""),
@@ -126,7 +126,7 @@ class SheetsTest(CommandTest):
                 words = f"--module 1 --width {width} --height {height} --columns {columns} --rows {rows}"
                 self.gives(f"scan {words} --workers 1 --year 2026", b"", wanted)
 
-    def test_4096_bytes_of_a_header(self):
+    def test_4096_bytes_of_a_header(self) -> None:
         line = "0 0 ]E0 (01)09501101530003\n"
         for count, wanted in [(4096, line), (4097, "refused 29 PbmHeader"), (5000, "refused 29 PbmHeader")]:
             for front, after in [(b"P4\n#", b"\n113 3\n"), (b"P4 113#", b"\r3 "), (b"P4\t113 #", b"\n3\r")]:
@@ -138,7 +138,7 @@ class SheetsTest(CommandTest):
                     self.assertEqual(len(header), count)
                     self.gives(SCAN, header + LABEL, wanted)
 
-    def test_the_header_counts_for_each_image(self):
+    def test_the_header_counts_for_each_image(self) -> None:
         header = b"P4\n#" + 4_086 * b"c" + b"\n113 3\n"
         self.assertEqual(len(header), 4_097)
         self.gives(SCAN, image(LOW, 1, 0) + header + LABEL, "refused 29 PbmHeader")
@@ -146,7 +146,7 @@ class SheetsTest(CommandTest):
         lines = "".join(f"0 {number} ]E0 (01)09501101530003\n" for number in range(3))
         self.gives(SCAN, 3 * (header + LABEL), lines)
 
-    def test_4096_images(self):
+    def test_4096_images(self) -> None:
         command = SCAN.replace("--width 113", "--width 1")
         images = 4_096 * b"P4\n1 3\n\0\0\0"
         lines = [f"0 {number} refused 19 Blank\n" for number in range(4_096)]
@@ -154,7 +154,7 @@ class SheetsTest(CommandTest):
         for more in [b"P4\n1 3\n\0\0\0", b"P", b"x", b"\n"]:
             self.gives(command, images + more, "refused 31 PbmSize")
 
-    def test_65535_dots_of_an_image(self):
+    def test_65535_dots_of_an_image(self) -> None:
         for size, wanted in [
             ("65535 1", "refused 30 Truncated"),
             ("65536 1", "refused 31 PbmSize"),
@@ -165,6 +165,6 @@ class SheetsTest(CommandTest):
             with self.subTest(size):
                 self.gives(SCAN, f"P4\n{size}\n", wanted)
 
-    def test_a_cell_of_one_dot(self):
+    def test_a_cell_of_one_dot(self) -> None:
         self.gives(grid(1, 3, 1, 1), b"", "")
         self.gives(grid(1, 3, 1, 1), "ean8,96385074", "refused 27 LabelWidth 0")

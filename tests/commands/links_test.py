@@ -1,8 +1,11 @@
 """GS1 Digital Links as records of `live`: where the key stands, each key and its qualifiers, the query, percent codes, and what is
 no link."""
 
+from __future__ import annotations
+
 import itertools
 import string
+from typing import Sequence
 
 from element_strings import PARTS, X, check_digit, lengths, value
 from program import CommandTest
@@ -12,20 +15,20 @@ GTIN, ELEMENT = "09501101530003", "(01)09501101530003"
 KIND = "refused 40 Kind"
 
 # The primary keys, each with its qualifiers in their order.
-KEYS = {
+KEYS: dict[str, list[str]] = {
     "00": [], "01": ["22", "10", "21", "235"], "253": [], "255": [], "401": [], "402": [], "414": ["254", "7040"], "415": ["8020"],
     "417": ["7040"], "8003": [], "8004": ["7040"], "8006": ["22", "10", "21"], "8010": ["8011"], "8013": [], "8017": ["8019"],
     "8018": ["8019"],
 }
 
 
-def value_of(ai):
+def value_of(ai: str) -> str:
     """A value of the AI, of letters and digits alone: one of the table's, or some letter."""
     return value(ai, min(lengths(ai))) if ai in PARTS else "A"
 
 
 class LinksTest(CommandTest):
-    def are_answered(self, cases, words=("-", "]Q1", "]d1"), form=""):
+    def are_answered(self, cases: list[tuple[str, str]], words: Sequence[str] = ("-", "]Q1", "]d1"), form: str = "") -> None:
         """That links have these answers: without an identifier, and behind each of these."""
         told = []
         for word, (link, answer) in itertools.product(words, cases):
@@ -33,7 +36,7 @@ class LinksTest(CommandTest):
             told.append((f"0,{front}{link}", f"0 - {answer if answer.startswith('refused') else f'{word} {answer}'}"))
         self.gives_lines(LIVE + form, told)
 
-    def test_parts_of_a_uri(self):
+    def test_parts_of_a_uri(self) -> None:
         self.are_answered([
             (f"https://id.gs1.org/01/{GTIN}", ELEMENT),
             (f"http://id.gs1.org/01/{GTIN}", ELEMENT),
@@ -69,7 +72,7 @@ class LinksTest(CommandTest):
         # What is no link behind other identifiers.
         self.gives_lines(LIVE, [(f"0,{it}https://id.gs1.org/01/{GTIN}", "0 - refused 5 UnknownAi 0") for it in ["]Q3", "]d2", "]J1", "^"]])
 
-    def test_keys_and_qualifiers(self):
+    def test_keys_and_qualifiers(self) -> None:
         for key, qualifiers in KEYS.items():
             cases = []
             for count in range(len(qualifiers) + 1):
@@ -88,12 +91,12 @@ class LinksTest(CommandTest):
             cases += [(f"https://h/{key}/{value_of(key)}/{ai}/{value_of(ai)}", KIND) for ai in others]
             self.are_answered(cases, ["]Q1"])
 
-    def test_each_ai_in_front(self):
+    def test_each_ai_in_front(self) -> None:
         # The keys alone begin a link.
         cases = [(f"https://h/{ai}/{value_of(ai)}", f"({ai}){value_of(ai)}" if ai in KEYS else KIND) for ai in PARTS]
         self.are_answered([*cases, *((f"https://h/{it}/A", KIND) for it in ["8002", "8005", "0", "1", "001", "gtin", "%30%31", "0%31"])])
 
-    def test_where_the_key_stands(self):
+    def test_where_the_key_stands(self) -> None:
         self.are_answered([
             # The first segment from which on the rest is a key, a value and qualifiers.
             (f"https://h/414/9501101530003/01/{GTIN}", ELEMENT),
@@ -120,7 +123,7 @@ class LinksTest(CommandTest):
             (f"https://h/01/{GTIN}" + 10_000 * "/10", KIND),
         ])
 
-    def test_each_length_of_a_gtin_in_the_path(self):
+    def test_each_length_of_a_gtin_in_the_path(self) -> None:
         cases = []
         for length in range(1, 16):
             payload = "123456789012345"[: length - 1]
@@ -128,7 +131,7 @@ class LinksTest(CommandTest):
             cases.append((f"https://h/01/{gtin}", f"(01){gtin:0>14}" if length in (8, 12, 13, 14) else "refused 6 ValueLength 0"))
         self.are_answered(cases)
 
-    def test_gtins_in_the_path(self):
+    def test_gtins_in_the_path(self) -> None:
         # Of 8, 12 and 13 digits they have zeros before them; of no other key and not in a query.
         self.are_answered([
             ("https://id.gs1.org/01/9501101530003", ELEMENT),
@@ -146,7 +149,7 @@ class LinksTest(CommandTest):
             (f"https://h/01/{GTIN}?01={GTIN}", ELEMENT + ELEMENT),
         ])
 
-    def test_query(self):
+    def test_query(self) -> None:
         front = f"https://id.gs1.org/01/{GTIN}"
         self.are_answered([(front + query, answer if answer.startswith("refused") else ELEMENT + answer) for query, answer in [
             ("/10/AB?17=261231", "(10)AB(17)261231"),
@@ -183,7 +186,7 @@ class LinksTest(CommandTest):
         self.are_answered([(f"{front}?{ai}={value_of(ai)}", f"{ELEMENT}({ai}){value_of(ai)}") for ai in PARTS], ["-"])
         self.are_answered([(f"{front}/10/A%3DB?17=261231", "01=09501101530003\t10=A=B\t17=261231")], form=" --elements")
 
-    def test_percent_codes(self):
+    def test_percent_codes(self) -> None:
         front = f"https://id.gs1.org/01/{GTIN}/10/"
         told = [f"{ELEMENT}(10)A{chr(it)}" if chr(it) in X else "refused 7 ValueCharacter 1" for it in range(256)]
         self.are_answered([(f"{front}A%{byte:{form}}", answer) for byte, answer in enumerate(told) for form in ["02x", "02X"]], ["-"])
@@ -204,7 +207,7 @@ class LinksTest(CommandTest):
             (f"https://h/01/{GTIN}#%2", KIND),
         ])
 
-    def test_bytes(self):
+    def test_bytes(self) -> None:
         # Letters, digits and marks, wherever they stand; no control byte, no blank and none of UTF-8.
         others = [chr(it) for it in range(33) if chr(it) != "\n"] + ["\x7f", "\x80", "\u00e9", "\u20ac", "\U0001f600"]
         places = [f"https://{{}}h/01/{GTIN}", f"https://h/{{}}/01/{GTIN}", f"https://h/01/{GTIN}/10/A{{}}B", f"https://h/01/{GTIN}?a={{}}b",
@@ -212,7 +215,7 @@ class LinksTest(CommandTest):
         self.are_answered([(place.format(it), KIND) for it in others for place in places], ["]Q1"])
         self.are_answered([(f"https://h/{it}/01/{GTIN}?a={it}", ELEMENT) for it in string.printable[:94] if it not in "%/?#;&"], ["]Q1"])
 
-    def test_lengths(self):
+    def test_lengths(self) -> None:
         front = f"https://id.gs1.org/01/{GTIN}"
         # More than 48 elements, or an AI or a value of more than 192 bytes, come before what is wrong with an element.
         full = f"?10={20 * 'A'}&91={90 * 'B'}&92=" + 59 * "C"
@@ -240,7 +243,7 @@ class LinksTest(CommandTest):
             (front + "?" + "&".join(10_000 * ["30=1"]), "refused 11 TooLong"),
         ])
 
-    def test_numbers_that_are_no_gtin(self):
+    def test_numbers_that_are_no_gtin(self) -> None:
         self.are_answered([
             ("https://id.gs1.org/00/106141412345678908", "(00)106141412345678908"),
             ("https://id.gs1.org/414/9520123456788/254/32a%2Fb", "(414)9520123456788(254)32a/b"),

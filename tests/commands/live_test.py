@@ -1,6 +1,8 @@
 """Records that are answered as they come: each line and each end, whatever pieces the input comes in, and that no answer waits for a
 later record."""
 
+from __future__ import annotations
+
 import os
 import random
 import re
@@ -10,9 +12,10 @@ import socket
 import subprocess
 import tempfile
 import time
+from typing import Any, Callable
 
 import program
-from program import Breaking, CommandTest, ran, ran_to, room_for
+from program import Breaking, CommandTest, Ran, ran, ran_to, room_for
 from rows import EAN8_ROW, GS1128_ROW, SYMBOL, WIDE_SPACE, WRONG_CHECK_DIGIT
 
 # Widths of rows with what is answered to them.
@@ -92,12 +95,12 @@ MOST = 65_536
 PATIENCE = 20
 
 
-def live(lanes=2, workers=1, more=""):
+def live(lanes: int = 2, workers: int = 1, more: str = "") -> str:
     """The words of the command."""
     return f"live --lanes {lanes} --workers {workers} --year 2026{more}"
 
 
-def meant(line, lanes):
+def meant(line: bytes, lanes: int) -> tuple[int | str, list[str] | str] | None:
     """The lane of a line without its line feed, and its widths or what stands in its place; None for no record."""
     text = line.removesuffix(b"\r")
     if not text:
@@ -106,8 +109,8 @@ def meant(line, lanes):
         return "-", "refused 44 InputSize"
     record = text.decode("latin-1")
     if record in dict(MESSAGES):
-        lane, _, told = dict(MESSAGES)[record].split(" ", 2)
-        return lane, told
+        place, _, told = dict(MESSAGES)[record].split(" ", 2)
+        return place, told
     fields = record.split(",")
     if len(fields) != 2:
         return "-", "refused 39 Csv"
@@ -125,7 +128,7 @@ def meant(line, lanes):
     return lane, widths
 
 
-def answer(widths):
+def answer(widths: list[str]) -> str:
     """What is answered to a row of the tests: one of the table, a blank one, or one with too few runs for a symbol."""
     if " ".join(widths) in ANSWERS:
         return ANSWERS[" ".join(widths)]
@@ -133,7 +136,7 @@ def answer(widths):
     return "refused 19 Blank" if len(widths) == 1 else "refused 20 RunCount"
 
 
-def text_of(given, lanes):
+def text_of(given: bytes, lanes: int) -> bytes:
     """The text that answers an input, by a model of the command."""
     lines, numbers = [], lanes * [0]
     for line in given.split(b"\n"):
@@ -144,12 +147,12 @@ def text_of(given, lanes):
         if isinstance(widths, str):
             lines.append(f"{lane} - {widths}\n")
         else:
-            lines.append(f"{lane} {numbers[lane]} {answer(widths)}\n")
-            numbers[lane] += 1
+            lines.append(f"{lane} {numbers[int(lane)]} {answer(widths)}\n")
+            numbers[int(lane)] += 1
     return "".join(lines).encode()
 
 
-def random_line(rng):
+def random_line(rng: random.Random) -> bytes:
     """A line of an input: a row, a fault or a message, bytes, digits where numbers stand, or nothing."""
     kind = rng.randrange(10)
     if kind < 4:
@@ -166,7 +169,7 @@ def random_line(rng):
     return line + rng.choice([b"\n", b"\n", b"\r\n"])
 
 
-def random_input(rng, count):
+def random_input(rng: random.Random, count: int) -> bytes:
     """This many lines, and a row whose line may be unfinished."""
     given = b"".join(random_line(rng) for _ in range(count)) + b"0,7\r\n"
     return given[: len(given) - rng.randrange(6)]
@@ -175,24 +178,24 @@ def random_input(rng, count):
 class Running:
     """A run that goes on: what is sent to it, and the lines that come of it."""
 
-    def __init__(self, process, send, receive):
+    def __init__(self, process: subprocess.Popen[bytes], send: Callable[[bytes], object], receive: int) -> None:
         self.process, self.send, self.receive, self.held = process, send, receive, b""
 
-    def __enter__(self):
+    def __enter__(self) -> Running:
         return self
 
-    def __exit__(self, *_):
+    def __exit__(self, *_: object) -> None:
         self.process.kill()
         self.process.wait()
         for pipe in (self.process.stdin, self.process.stdout, self.process.stderr):
             if pipe:
                 pipe.close()
 
-    def has_more(self, seconds):
+    def has_more(self, seconds: float) -> bool:
         """Whether more is there, or the end, within this many seconds."""
         return bool(select.select([self.receive], [], [], seconds)[0])
 
-    def line(self):
+    def line(self) -> str:
         """The next line, which has to come without anything more being sent."""
         until = time.monotonic() + PATIENCE
         while b"\n" not in self.held:
@@ -203,13 +206,13 @@ class Running:
         line, self.held = self.held.split(b"\n", 1)
         return line.decode()
 
-    def ended(self):
+    def ended(self) -> tuple[bytes, int]:
         """What comes after the last line to the end, and the exit status."""
         rest = os.read(self.receive, 65_536) if self.has_more(PATIENCE) else b"nothing came"
         return self.held + rest, self.process.wait(PATIENCE)
 
 
-def running(words, **how):
+def running(words: str, **how: Any) -> Running:
     """A run between two pipes."""
     process = subprocess.Popen(
         [program.PATH, *words.split()], bufsize=0, stdin=subprocess.PIPE, stdout=subprocess.PIPE, **how
@@ -218,25 +221,25 @@ def running(words, **how):
 
 
 class LiveTest(CommandTest):
-    def answers(self, given, wanted, lanes=2, workers=1, more=""):
+    def answers(self, given: bytes | str, wanted: list[str], lanes: int = 2, workers: int = 1, more: str = "") -> None:
         """That the command writes these lines of this input."""
         given = given if isinstance(given, bytes) else given.encode("latin-1")
-        wanted = "".join(f"{line}\n" for line in wanted)
-        self.assertEqual(ran(live(lanes, workers, more), given).outcome(), (0, wanted.encode(), ""))
+        output = "".join(f"{line}\n" for line in wanted)
+        self.assertEqual(ran(live(lanes, workers, more), given).outcome(), (0, output.encode(), ""))
 
-    def test_each_row(self):
+    def test_each_row(self) -> None:
         for widths, told in ROWS:
             with self.subTest(told):
                 self.answers(f"0,{widths}\n", [f"0 0 {told}"])
 
-    def test_each_fault_and_message_in_its_place(self):
+    def test_each_fault_and_message_in_its_place(self) -> None:
         given = "".join(f"{record}\n1,7\n" for record, _ in PLACED)
         blank = (f"1 {number} refused 19 Blank" for number in range(len(PLACED)))
         self.answers(given, [line for (_, told), other in zip(PLACED, blank) for line in (told, other)])
 
-    def test_lines(self):
+    def test_lines(self) -> None:
         blank = "0 0 refused 19 Blank"
-        for given, wanted in [
+        cases: list[tuple[str, list[str]]] = [
             ("", []),
             ("\n", []),
             ("\r\n", []),
@@ -253,11 +256,12 @@ class LiveTest(CommandTest):
             ("0,7\r0,7\n", ["- - refused 39 Csv"]),
             ('"0,7\n0,7\n"', ["- - refused 41 BadLane", blank, "- - refused 39 Csv"]),
             ("0,", ["0 - refused 18 BadRuns"]),
-        ]:
+        ]
+        for given, wanted in cases:
             with self.subTest(given):
                 self.answers(given, wanted)
 
-    def test_lanes(self):
+    def test_lanes(self) -> None:
         self.answers("15,0\n16,0\n015,0\n00,0\n09,0\n", [
             "15 0 refused 19 Blank",
             "- - refused 41 BadLane",
@@ -266,9 +270,9 @@ class LiveTest(CommandTest):
             "9 0 refused 19 Blank",
         ], lanes=16)
 
-    def test_lengths_of_lines(self):
+    def test_lengths_of_lines(self) -> None:
         # A row of 32,767 runs, its first width written with zeros so that the line has this many bytes.
-        def line(count):
+        def line(count: int) -> bytes:
             return b"0," + b"1".rjust(count - 2 - 32_766 * 2, b"0") + 32_766 * b" 1"
 
         size, count_of_runs, blank = "- - refused 44 InputSize", "0 0 refused 20 RunCount", "1 0 refused 19 Blank"
@@ -292,12 +296,12 @@ class LiveTest(CommandTest):
         self.answers((MOST - 1) * b"0" + b"\r\r\n", ["- - refused 39 Csv"])
         self.answers(MOST * b"0" + b"\r\r\n", [size])
 
-    def test_a_line_of_many_bytes(self):
+    def test_a_line_of_many_bytes(self) -> None:
         # 20 MB without a line feed, whatever is in them.
         given = 20_000_000 * b"0" + b"\r\n0,7\n" + 3_000_000 * b"0,7\0"
         self.answers(given, ["- - refused 44 InputSize", "0 0 refused 19 Blank", "- - refused 44 InputSize"])
 
-    def test_elements(self):
+    def test_elements(self) -> None:
         # (17)000229 and a GTIN, as in the tests of rows.
         for widths, told in [
             (GS1128_ROW, "]C1 422=528"),
@@ -309,7 +313,7 @@ class LiveTest(CommandTest):
                 answers = ["1 - refused 18 BadRuns", "1 - ]C1 10=A=B\t21=(10)C", "1 - - 01=00000096385074"]
                 self.answers(f"1,{widths}\n{messages}", [f"1 0 {told}", *answers], more=" --elements")
 
-    def test_any_input_as_the_model(self):
+    def test_any_input_as_the_model(self) -> None:
         rng = random.Random(47)
         for place in range(12):
             given = random_input(rng, 120)
@@ -317,7 +321,7 @@ class LiveTest(CommandTest):
             with self.subTest(place=place, workers=workers):
                 self.assertEqual(ran(live(3, workers), given).outcome(), (0, text_of(given, 3), ""))
 
-    def in_pieces(self, given, sizes, lanes=3):
+    def in_pieces(self, given: bytes, sizes: list[int], lanes: int = 3) -> tuple[int, bytes, str]:
         """What the command writes of an input that comes in pieces of these sizes, each when the one before was read."""
         it = subprocess.Popen(
             [program.PATH, *live(lanes, 2).split()],
@@ -335,7 +339,7 @@ class LiveTest(CommandTest):
         output, error = it.communicate(timeout=program.SECONDS)
         return it.returncode, output, error.decode()
 
-    def test_any_pieces(self):
+    def test_any_pieces(self) -> None:
         rng = random.Random(4)
         for place in range(4):
             given = random_input(rng, 25)
@@ -349,7 +353,7 @@ class LiveTest(CommandTest):
                 with self.subTest(place=place, sizes=name):
                     self.assertEqual(self.in_pieces(given, sizes), wanted)
 
-    def test_pieces_of_long_lines(self):
+    def test_pieces_of_long_lines(self) -> None:
         rng = random.Random(5)
         given = b"".join(
             random_line(rng) + 3 * b"0,7\n" + rng.randint(MOST - 3, MOST + 4) * rng.choice([b"1", b"\r"]) + rng.choice([b"\n", b"\r\n"])
@@ -358,7 +362,7 @@ class LiveTest(CommandTest):
         sizes = [rng.choice([1, 2, 4_095, 65_535, 65_536, 65_537]) for _ in range(4_000)]
         self.assertEqual(self.in_pieces(given, sizes), (0, text_of(given, 3), ""))
 
-    def test_the_lines_of_lanes(self):
+    def test_the_lines_of_lanes(self) -> None:
         # Of records that are all rows they are those of `lanes`, in the order of the records.
         rng = random.Random(6)
         given = "".join(f"{rng.randrange(3)},{rng.choice(ROWS)[0]}\n" for _ in range(400)).encode()
@@ -371,7 +375,7 @@ class LiveTest(CommandTest):
                     [line.split()[0] for line in told], [record.split(b",")[0] for record in given.splitlines()]
                 )
 
-    def one_at_a_time(self, it):
+    def one_at_a_time(self, it: Running) -> None:
         """That each record is answered before the next is sent."""
         numbers = [0, 0]
         rows = [(f"{lane},{widths}", told) for lane in range(2) for widths, told in ROWS]
@@ -383,24 +387,24 @@ class LiveTest(CommandTest):
                 numbers[lane] += 1
             self.assertEqual(it.line(), told)
 
-    def test_no_answer_waits_by_pipe(self):
+    def test_no_answer_waits_by_pipe(self) -> None:
         for workers in [1, 16]:
             with self.subTest(workers=workers), running(live(2, workers)) as it:
                 self.one_at_a_time(it)
                 it.process.stdin.close()
                 self.assertEqual(it.ended(), (b"", 0))
 
-    def test_no_answer_waits_by_socket(self):
+    def test_no_answer_waits_by_socket(self) -> None:
         here, there = socket.socketpair(socket.AF_UNIX, socket.SOCK_STREAM)
         with here, there:
-            process = subprocess.Popen([program.PATH, *live().split()], stdin=there, stdout=there)
+            process = subprocess.Popen([program.PATH, *live().split()], stdin=there.fileno(), stdout=there.fileno())
             there.close()
             with Running(process, here.sendall, here.fileno()) as it:
                 self.one_at_a_time(it)
                 here.shutdown(socket.SHUT_WR)
                 self.assertEqual(it.ended(), (b"", 0))
 
-    def test_no_answer_waits_by_socat(self):
+    def test_no_answer_waits_by_socat(self) -> None:
         socat = shutil.which("socat")
         if not socat:
             self.skipTest("apt-get install socat")
@@ -416,7 +420,7 @@ class LiveTest(CommandTest):
                 here.shutdown(socket.SHUT_WR)
                 self.assertEqual(it.ended(), (b"", 0))
 
-    def test_a_line_in_two_pieces(self):
+    def test_a_line_in_two_pieces(self) -> None:
         # Of a line that has not ended nothing is written, and then it is answered.
         with running(live()) as it:
             it.send(b"0,7\n0,1")
@@ -430,7 +434,7 @@ class LiveTest(CommandTest):
             self.assertEqual(it.line(), "0 1 refused 19 Blank")
             self.assertEqual(it.ended(), (b"", 0))
 
-    def test_a_reader_that_has_gone(self):
+    def test_a_reader_that_has_gone(self) -> None:
         # It is no signal, and the end of the input is not waited for.
         with running(live(), stderr=subprocess.PIPE) as it:
             it.send(b"0,7\n")
@@ -439,7 +443,7 @@ class LiveTest(CommandTest):
             it.send(b"0,7\n")
             self.assertEqual((it.process.wait(PATIENCE), it.process.stderr.read()), (1, b"refused 38 WriteFault\n"))
 
-    def test_an_input_that_fails_at_any_byte(self):
+    def test_an_input_that_fails_at_any_byte(self) -> None:
         # The lines that had ended are answered.
         given = b"0,1\n0,0 1 0\n1,^10AB^\n1,\n"
         for count in range(len(given) + 1):
@@ -447,13 +451,13 @@ class LiveTest(CommandTest):
                 told = text_of(given[: given[:count].rfind(b"\n") + 1], 2)
                 self.is_refused(ran(live(), broken), "refused 37 ReadFault", told)
 
-    def test_an_input_that_ends_at_any_byte(self):
+    def test_an_input_that_ends_at_any_byte(self) -> None:
         given = f"0,1\r\n0,0 1 0\n1,{EAN8_ROW[:7]}\n3,1\n".encode()
         for count in range(len(given) + 1):
             with self.subTest(count=count):
                 self.assertEqual(ran(live(), given[:count]).outcome(), (0, text_of(given[:count], 2), ""))
 
-    def test_an_output_that_fails_at_any_byte(self):
+    def test_an_output_that_fails_at_any_byte(self) -> None:
         given = b"0,1\n0,0 1 0\n1,^10AB^\n1,\n"
         output = text_of(given, 2)
         for room in range(len(output)):
@@ -461,16 +465,16 @@ class LiveTest(CommandTest):
                 self.is_refused(ran_to(room, live(), given), "refused 38 WriteFault", output[:room])
         self.assertEqual(ran_to(len(output), live(), given).outcome(), (0, output, ""))
 
-    def test_a_full_output(self):
+    def test_a_full_output(self) -> None:
         with open("/dev/full", "wb") as full:
             it = ran(live(), b"0,7\n", stdout=full)
         self.assertEqual((it.status, it.error), (1, b"refused 38 WriteFault\n"))
 
-    def limited(self, workers, mebibytes):
+    def limited(self, workers: int, mebibytes: int) -> Ran:
         """A run of one row with this much room."""
         return ran(live(1, workers), b"0,7\n", **room_for(mebibytes))
 
-    def test_a_thread_for_each_worker(self):
+    def test_a_thread_for_each_worker(self) -> None:
         # Before the first byte is read.
         self.assertEqual(self.limited(1, 40).outcome(), (0, b"0 0 refused 19 Blank\n", ""))
         self.is_refused(self.limited(16, 40), "refused 36 NoThread")

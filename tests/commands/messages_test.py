@@ -1,6 +1,8 @@
 """Texts of scanners that read symbols themselves, as records of `live`: each line of the grammar, each identifier, Digital Links, and
 where a text is cut or too long."""
 
+from __future__ import annotations
+
 import itertools
 import string
 
@@ -20,11 +22,11 @@ MOST = 65_536
 
 
 class MessagesTest(CommandTest):
-    def are_answered(self, cases, command=LIVE):
+    def are_answered(self, cases: list[tuple[str, str]], command: str = LIVE) -> None:
         """That messages have these answers, which stand in their place and have no number."""
         self.gives_lines(command, [(f"0,{message}", f"0 - {answer}") for message, answer in cases])
 
-    def test_digits(self):
+    def test_digits(self) -> None:
         self.are_answered([
             # EAN-13 and UPC-A.
             ("]E09501101530003", "]E0 (01)09501101530003"),
@@ -59,7 +61,7 @@ class MessagesTest(CommandTest):
             ("]I109501101530004", "refused 3 CheckDigit"),
         ])
 
-    def test_upce(self):
+    def test_upce(self) -> None:
         # The digits that the symbol shows: 0, six of them and the check digit of the GTIN-12, as `check` takes them.
         self.are_answered([
             *((f"]E00{six}{gtin[-1]}", f"]E0 (01)00{gtin}") for six, gtin, _ in UPCE + OTHER_UPCE),
@@ -77,7 +79,7 @@ class MessagesTest(CommandTest):
             ("]E0X1234565", "refused 2 NotDigit 0"),
         ])
 
-    def test_digits_without_an_identifier(self):
+    def test_digits_without_an_identifier(self) -> None:
         self.are_answered([
             ("9501101530003", "- (01)09501101530003"),
             ("012345000065", "- (01)00012345000065"),
@@ -99,7 +101,7 @@ class MessagesTest(CommandTest):
         # Fewer than eight digits are the widths of a row.
         self.gives_lines(LIVE, [("0,1234567", "0 - refused 18 BadRuns"), ("0,40112", "0 0 refused 19 Blank")])
 
-    def test_each_first_digit_of_a_bare_gtin(self):
+    def test_each_first_digit_of_a_bare_gtin(self) -> None:
         # Eight digits that begin with 0 may be a UPC-E too.
         cases = []
         for length, first in itertools.product((8, 12, 13, 14), range(10)):
@@ -108,7 +110,7 @@ class MessagesTest(CommandTest):
             cases.append((gtin, "refused 40 Kind" if length == 8 and first == 0 else f"- (01){gtin:0>14}"))
         self.are_answered(cases)
 
-    def test_element_strings(self):
+    def test_element_strings(self) -> None:
         for word, front in [(it, it) for it in STRINGS] + [("-", "^"), ("-", "\x1d")]:
             self.are_answered([(front + text, answer if answer.startswith("refused") else f"{word} {answer}") for text, answer in [
                 ("0109501101530003", "(01)09501101530003"),
@@ -134,7 +136,7 @@ class MessagesTest(CommandTest):
                 ("4225281", "refused 10 MissingSeparator 0"),
             ]])
 
-    def test_a_separator_in_front(self):
+    def test_a_separator_in_front(self) -> None:
         # One is passed over, and a place counts from behind it.
         for front, word in [("]C1", "]C1"), ("]d2", "]d2"), ("", "-")]:
             self.are_answered([
@@ -147,20 +149,20 @@ class MessagesTest(CommandTest):
                 (f"{front}^10AB^17260231", "refused 9 ValueDate 5"),
             ])
 
-    def test_each_ai(self):
+    def test_each_ai(self) -> None:
         told = [(ai, value(ai, length)) for ai in PARTS for length in {min(lengths(ai)), max(lengths(ai))}]
         for form, shown in [("", "({}){}"), (" --elements", "{}={}")]:
             self.are_answered([(f"]C1{ai}{text}", f"]C1 {shown.format(ai, text)}") for ai, text in told], LIVE + form)
         behind = [(ai, text, "" if is_predefined(ai) else "^") for ai, text in told]
         self.are_answered([(f"]d2{ai}{text}{end}20A1", f"refused 7 ValueCharacter {len(ai + text + end)}") for ai, text, end in behind])
 
-    def test_each_identifier(self):
+    def test_each_identifier(self) -> None:
         # None but these, whatever a text says behind it; a letter in the other case is another.
         others = [f"]{letter}{digit}" for letter in string.ascii_letters for digit in string.digits]
         self.are_answered([(f"{it}0109501101530003", "refused 40 Kind") for it in others if it not in TAKEN])
         self.are_answered([(it, "refused 40 Kind") for it in ["]", "]E", "]]", "]0", "]E\u00e9", "]C^0109501101530003", "] C10109501101530003"]])
 
-    def test_ends_of_a_text(self):
+    def test_ends_of_a_text(self) -> None:
         for front, answer in [("]E09501101530003", "]E0 (01)09501101530003"), ("96385074", "- (01)00000096385074"),
                               ("]C110AB", "]C1 (10)AB"), ("^10AB", "- (10)AB"), (LINK, f"- {ELEMENT}")]:
             self.are_answered([(front + end, answer) for end in ["", " ", "\t", "\f", "\r", "\r\r", " \t\f\r  "]])
@@ -176,7 +178,7 @@ class MessagesTest(CommandTest):
         # A blank in front is a part of a field that is none.
         self.gives_lines(LIVE, [(f"0, {LINK}", "0 - refused 18 BadRuns"), ("0, ]C110AB", "0 - refused 18 BadRuns")])
 
-    def test_lanes_and_commas(self):
+    def test_lanes_and_commas(self) -> None:
         self.gives_lines(LIVE, [
             ("1,]C110A,B", "- - refused 41 BadLane"),
             (",]E09501101530003", "- - refused 41 BadLane"),
@@ -193,12 +195,12 @@ class MessagesTest(CommandTest):
             ("0,]E09501101530003", "0 - ]E0 (01)09501101530003"),
         ])
 
-    def test_the_year(self):
+    def test_the_year(self) -> None:
         for year, answer in [(2026, "]C1 (17)000229"), (2060, "refused 9 ValueDate 0")]:
             self.are_answered([("]C117000229", answer)], f"live --lanes 1 --workers 1 --year {year}")
         self.are_answered([(f"{LINK}?17=000229", "refused 9 ValueDate 1")], "live --lanes 1 --workers 1 --year 2060")
 
-    def test_lengths(self):
+    def test_lengths(self) -> None:
         full, hri = "91" + 90 * "A" + "^92" + 90 * "A" + "^10ABCD", "(91)" + 90 * "A" + "(92)" + 90 * "A" + "(10)ABCD"
         self.assertEqual(len(full), 192)
         self.are_answered([
@@ -220,7 +222,7 @@ class MessagesTest(CommandTest):
         for message in ["]E0" + (MOST - 4) * "9", (MOST - 1) * "9", "https://h/" + MOST * "/"]:
             self.gives_lines(LIVE, [(f"0,{message}", "- - refused 44 InputSize"), ("0,^10AB", "0 - - (10)AB")])
 
-    def test_a_text_that_is_cut_at_any_byte(self):
+    def test_a_text_that_is_cut_at_any_byte(self) -> None:
         for message, answers in [
             # Of the widths of a row there are none.
             ("]E09501101530003", ["refused 18 BadRuns", *2 * ["refused 40 Kind"], *12 * ["refused 1 Length"], "refused 3 CheckDigit",

@@ -5,14 +5,14 @@ from program import Breaking, CommandTest, ran
 from sheets import HIGH, LOW, RECORD, grid, image
 
 
-def first_dark_dot(printed, width, y):
+def first_dark_dot(printed: bytes, width: int, y: int) -> int:
     """Where row `y` of an image of such a width, of whole bytes, has its first dark dot."""
     dots = printed[printed.index(b"\n", len("P4\n")) + 1 :][y * width // 8 : (y + 1) * width // 8]
     return width - int.from_bytes(dots, "big").bit_length()
 
 
 class PrintTest(CommandTest):
-    def test_sheets(self):
+    def test_sheets(self) -> None:
         for rows, header, records, images, labelled, light in [
             (1, LOW, 0, 0, 0, 0),
             (1, LOW, 1, 1, 1, 0),
@@ -24,7 +24,7 @@ class PrintTest(CommandTest):
                 it = ran(grid(113, 3, 1, rows), records * RECORD.encode())
                 self.assertEqual(it.outcome(), (0, images * image(header, labelled, light), ""))
 
-    def test_lines(self):
+    def test_lines(self) -> None:
         self.gives(grid(113, 3, 1, 1) + " --text", RECORD, "0 0 ean13 (01)09501101530003\n")
         self.gives(
             grid(200, 3, 2, 1) + " --text",
@@ -36,7 +36,7 @@ class PrintTest(CommandTest):
             "2 1 itf14 (01)09501101530003\n",
         )
 
-    def test_refused_records(self):
+    def test_refused_records(self) -> None:
         for given, wanted in [
             ("ean13", "record 0: refused 39 Csv"),
             ("ean13,9501101530003,", "record 0: refused 39 Csv"),
@@ -65,7 +65,7 @@ class PrintTest(CommandTest):
                 for output in ["", " --text"]:
                     self.gives(grid(113, 3, 2, 2) + output, given, wanted)
 
-    def test_the_narrowest_cells(self):
+    def test_the_narrowest_cells(self) -> None:
         # The GS1-128 has 79 modules, the others as many as each of their kind.
         for kind in KINDS.values():
             record, line = f"{kind.word},{kind.sample}", f"{kind.word} {kind.says}"
@@ -79,7 +79,7 @@ class PrintTest(CommandTest):
                 with self.subTest(record, width=dots):
                     self.gives(grid(dots, 2 * module + 1, 1, 1, module) + " --text", record, wanted)
 
-    def test_symbols_begin_after_their_left_quiet_zones(self):
+    def test_symbols_begin_after_their_left_quiet_zones(self) -> None:
         for kind in KINDS.values():
             record = f"{kind.word},{kind.sample}"
             for module in [1, 3]:
@@ -88,7 +88,7 @@ class PrintTest(CommandTest):
                     self.assertEqual(it.outcome()[::2], (0, ""))
                     self.assertEqual(first_dark_dot(it.output, 480, module), kind.left * module)
 
-    def test_what_does_not_fit(self):
+    def test_what_does_not_fit(self) -> None:
         ean13 = "0 0 ean13 (01)09501101530003\n"
         itf14 = "0 0 itf14 (01)09501101530003\n"
         # 48 characters are the most that are printed.
@@ -107,6 +107,6 @@ class PrintTest(CommandTest):
             with self.subTest(width=width, height=height):
                 self.gives(grid(width, height, columns, 1, module) + " --text", given, wanted)
 
-    def test_grids_before_reading(self):
+    def test_grids_before_reading(self) -> None:
         with Breaking(b"0") as broken:
             self.is_refused(ran(grid(113, 2, 1, 1), broken), "refused 25 BadGrid")

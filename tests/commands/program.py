@@ -1,6 +1,9 @@
 """Runs the program, and checks a run."""
 
+from __future__ import annotations
+
 import ctypes
+import io
 import itertools
 import mmap
 import os
@@ -8,9 +11,10 @@ import resource
 import subprocess
 import tempfile
 import unittest
+from typing import IO, Any, Callable, Union
 
 # The program that is tested; `run` sets it.
-PATH = None
+PATH = ""
 
 # No run takes as long.
 SECONDS = 120
@@ -19,18 +23,22 @@ SECONDS = 120
 EMULATED = bool(os.environ.get("EMULATED"))
 
 
+Given = Union[bytes, IO[bytes], int]
+"""What a run reads: bytes, an open file, or its number."""
+
+
 class Ran:
     """The result of a run: its exit status, its output, and its standard error."""
 
-    def __init__(self, status, output, error):
+    def __init__(self, status: int, output: bytes, error: bytes) -> None:
         self.status, self.output, self.error = status, output, error
 
-    def outcome(self):
+    def outcome(self) -> tuple[int, bytes, str]:
         """The exit status, the output, and the lines on standard error, as a test compares them."""
         return self.status, self.output, self.error.decode()
 
 
-def ran(command, given, **how):
+def ran(command: str, given: Given, **how: Any) -> Ran:
     """Runs the program's command, one word for each between spaces, on these bytes or on this open file."""
     how["input" if isinstance(given, bytes) else "stdin"] = given
     how.setdefault("stdout", subprocess.PIPE)
@@ -38,10 +46,10 @@ def ran(command, given, **how):
     return Ran(it.returncode, it.stdout, it.stderr)
 
 
-def ran_to(room, command, given):
+def ran_to(room: int, command: str, given: Given) -> Ran:
     """The same with an output file that has room for this many bytes: a write past them fails."""
 
-    def narrow():
+    def narrow() -> None:
         resource.setrlimit(resource.RLIMIT_FSIZE, (room, room))
 
     with tempfile.TemporaryFile() as file:
@@ -51,19 +59,19 @@ def ran_to(room, command, given):
         return Ran(it.status, file.read(), it.error)
 
 
-def room_for(mebibytes):
+def room_for(mebibytes: int) -> dict[str, Callable[[], None]]:
     """How a run is started with this much room for memory and for threads, each with a stack of eight MiB."""
     if EMULATED:
         raise unittest.SkipTest("an emulator takes the room that is meant for the program")
 
-    def limit():
+    def limit() -> None:
         resource.setrlimit(resource.RLIMIT_STACK, (8 << 20, resource.getrlimit(resource.RLIMIT_STACK)[1]))
         resource.setrlimit(resource.RLIMIT_AS, (mebibytes << 20, mebibytes << 20))
 
     return {"preexec_fn": limit}
 
 
-def field(text):
+def field(text: str) -> str:
     """A field of a record with this text: between quotes where CSV wants them."""
     return '"' + text.replace('"', '""') + '"' if set(text) & set('",\r\n') else text
 
@@ -72,7 +80,7 @@ class Breaking:
     """A file of some bytes, after which a read fails: the last bytes of a page of memory, and the page after it is
     of a file that has no such page."""
 
-    def __init__(self, given):
+    def __init__(self, given: bytes) -> None:
         with tempfile.TemporaryFile() as pages:
             pages.truncate(2 * mmap.PAGESIZE)
             self.room = mmap.mmap(pages.fileno(), 2 * mmap.PAGESIZE)
@@ -82,10 +90,10 @@ class Breaking:
         self.file = open("/proc/self/mem", "rb", buffering=0)
         self.file.seek(ctypes.addressof(ctypes.c_char.from_buffer(self.room)) + start)
 
-    def __enter__(self):
+    def __enter__(self) -> io.FileIO:
         return self.file
 
-    def __exit__(self, *_):
+    def __exit__(self, *_: object) -> None:
         self.file.close()
 
 
@@ -94,7 +102,7 @@ class CommandTest(unittest.TestCase):
 
     maxDiff = None
 
-    def gives(self, command, given, wanted):
+    def gives(self, command: str, given: bytes | str, wanted: str) -> None:
         """That a command writes this output, or is refused with this line and writes nothing: a refusal has no line end."""
         given = given if isinstance(given, bytes) else given.encode()
         if wanted and not wanted.endswith("\n"):
@@ -102,7 +110,7 @@ class CommandTest(unittest.TestCase):
         else:
             self.assertEqual(ran(command, given).outcome(), (0, wanted.encode(), ""))
 
-    def gives_lines(self, command, cases):
+    def gives_lines(self, command: str, cases: list[tuple[str, str]]) -> None:
         """That one run writes these lines, one for each record: the records with their lines."""
         it = ran(command, "".join(f"{record}\n" for record, _ in cases).encode())
         self.assertEqual((it.status, it.error), (0, b""))
@@ -112,7 +120,7 @@ class CommandTest(unittest.TestCase):
         self.assertEqual(wrong[:20], [], "records with the line that is wanted and the one that is told")
         self.assertEqual(len(lines), len(cases))
 
-    def writes_lines(self, command, given, lines):
+    def writes_lines(self, command: str, given: bytes, lines: list[str]) -> None:
         """That a command writes this long text; a failure shows the first line that differs."""
         it = ran(command, given)
         self.assertEqual((it.status, it.error), (0, b""))
@@ -121,6 +129,6 @@ class CommandTest(unittest.TestCase):
             for place, (line, found) in enumerate(itertools.zip_longest(lines, told)):
                 self.assertEqual(found, line, f"line {place}")
 
-    def is_refused(self, it, line, output=b""):
+    def is_refused(self, it: Ran, line: str, output: bytes = b"") -> None:
         """That a run was refused with this line, and wrote this before."""
         self.assertEqual(it.outcome(), (1, output, f"{line}\n"))

@@ -2,6 +2,8 @@
 
 A calling thread that reads rows too fails `one_worker_reads_the_rows_of_a_lane` of crates/acceptance."""
 
+from __future__ import annotations
+
 import os
 import subprocess
 import time
@@ -15,7 +17,7 @@ from rows import SYMBOL
 ROWS = 100_000
 
 
-def ticks(process):
+def ticks(process: int) -> dict[int, int]:
     """The processor time of each thread of the process that has not ended, in ticks of a hundredth of a second."""
     found = {}
     for thread in os.listdir(f"/proc/{process}/task"):
@@ -26,7 +28,7 @@ def ticks(process):
 
 
 class ReadersTest(CommandTest):
-    def of_a_run(self, workers):
+    def of_a_run(self, workers: int) -> tuple[int, int]:
         """The ticks of the calling thread, and those of the workers together, for all rows but the last few."""
         words = f"lanes --lanes 1 --workers {workers} --year 2026".split()
         with subprocess.Popen([program.PATH, *words], stdin=subprocess.PIPE, stdout=subprocess.DEVNULL) as it:
@@ -42,11 +44,11 @@ class ReadersTest(CommandTest):
         return calling, sum(found.values())
 
     @unittest.skipIf(program.EMULATED, "an emulator has threads of its own")
-    def test_workers_read_the_rows(self):
+    def test_workers_read_the_rows(self) -> None:
         for workers in [1, 3, 5, 9]:
             with self.subTest(workers):
                 # A third of the work is to read the rows; a worker that reads none takes no time. Ticks are coarse, so a run may show less.
-                runs = []
+                runs: list[tuple[float, float]] = []
                 while not any(reading > (calling + reading) / 10 for calling, reading in runs):
                     self.assertLess(len(runs), 5, runs)
                     runs.append(self.of_a_run(workers))

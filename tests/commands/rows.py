@@ -1,5 +1,7 @@
 """Rows of widths at one dot a module, as in records, and checks of rows."""
 
+from __future__ import annotations
+
 from program import CommandTest
 
 # The symbol of 9501101530003 as EAN-13: its runs without the two light ends.
@@ -33,7 +35,7 @@ GS1128_ROW = (
 )
 
 
-def runs(groups, dots=1):
+def runs(groups: str, dots: int = 1) -> list[int]:
     """The widths of groups of digits, at this many dots a module."""
     return [int(digit) * dots for group in groups.split() for digit in group]
 
@@ -41,7 +43,7 @@ def runs(groups, dots=1):
 class RowTest(CommandTest):
     """A test of rows."""
 
-    def reads(self, cases, year=2026):
+    def reads(self, cases: list[tuple[list[int], str]], year: int = 2026) -> None:
         """That rows of widths, each with its two light ends, have these answers, in both directions."""
         records = [
             ("0," + " ".join(map(str, turned)), answer) for widths, answer in cases for turned in (widths, widths[::-1])

@@ -13,7 +13,7 @@ LABELS = (
 LINE = "0 0 ]E0 (01)09501101530003\n"
 
 
-def scan(width, height, columns, rows, module=1, workers=1, year=2026):
+def scan(width: int, height: int, columns: int, rows: int, module: int = 1, workers: int = 1, year: int = 2026) -> str:
     """The command `scan` of such cells."""
     return (
         f"scan --module {module} --width {width} --height {height} --columns {columns} --rows {rows}"
@@ -22,13 +22,13 @@ def scan(width, height, columns, rows, module=1, workers=1, year=2026):
 
 
 class ScanTest(CommandTest):
-    def images(self, columns, rows, labels):
+    def images(self, columns: int, rows: int, labels: bytes) -> bytes:
         """The images of labels in cells of 211 by 3 dots, as they are printed."""
         it = ran(f"print --module 1 --width 211 --height 3 --columns {columns} --rows {rows} --year 2026", labels)
         self.assertEqual((it.status, it.error), (0, b""))
         return it.output
 
-    def test_printed_labels(self):
+    def test_printed_labels(self) -> None:
         for rows, header, sheets, labelled, empty, wanted in [
             (1, LOW, 0, 0, 0, ""),
             (1, LOW, 1, 1, 0, LINE),
@@ -47,7 +47,7 @@ class ScanTest(CommandTest):
             with self.subTest(rows=rows, sheets=sheets):
                 self.gives(scan(113, 3, 1, rows), sheets * image(header, labelled, empty), wanted)
 
-    def test_the_middle_rows_of_cells(self):
+    def test_the_middle_rows_of_cells(self) -> None:
         for height, header, place, wanted in [
             (3, "P4\n113 3\n", 0, "0 0 refused 20 RunCount\n"),
             (3, "P4\n113 3\n", 1, LINE),
@@ -60,7 +60,7 @@ class ScanTest(CommandTest):
                 rows = [BAR_ROW if row == place else 15 * b"\xff" for row in range(height)]
                 self.gives(scan(113, height, 1, 1), header.encode() + b"".join(rows), wanted)
 
-    def test_dates_by_the_year(self):
+    def test_dates_by_the_year(self) -> None:
         images = self.images(1, 1, b"gs1128,17000229\n")
         for year, wanted in [
             (2026, "0 0 ]C1 (17)000229\n"),
@@ -68,7 +68,7 @@ class ScanTest(CommandTest):
         ]:
             self.gives(scan(211, 3, 1, 1, year=year), images, wanted)
 
-    def test_order_by_column_and_number(self):
+    def test_order_by_column_and_number(self) -> None:
         for columns, rows, wanted in [
             (
                 2,
@@ -114,7 +114,7 @@ class ScanTest(CommandTest):
                 with self.subTest(columns=columns, workers=workers):
                     self.gives(scan(211, 3, columns, rows, workers=workers), images, wanted)
 
-    def test_refused_images(self):
+    def test_refused_images(self) -> None:
         for header, count, wanted in [
             ("P1\n113 3\n", 45, "refused 28 NotP4"),
             ("p4\n113 3\n", 45, "refused 28 NotP4"),
@@ -143,7 +143,7 @@ class ScanTest(CommandTest):
                 self.gives(scan(113, 3, 1, 1), bad, wanted)
                 self.gives(scan(113, 3, 1, 1), image(LOW, 1, 0) + bad, wanted)
 
-    def test_white_space_in_headers(self):
+    def test_white_space_in_headers(self) -> None:
         for space, wanted in [
             (" ", LINE),
             ("\t", LINE),
@@ -158,7 +158,7 @@ class ScanTest(CommandTest):
                 with self.subTest(header=header):
                     self.gives(scan(113, 3, 1, 1), header.encode() + LABEL, wanted)
 
-    def test_all_images_are_read_before_their_sizes_count(self):
+    def test_all_images_are_read_before_their_sizes_count(self) -> None:
         for header, count, wanted in [
             ("P4\n113 3\n", 45, "refused 31 PbmSize"),
             ("P4\n113 3\n", 44, "refused 30 Truncated"),
@@ -169,7 +169,7 @@ class ScanTest(CommandTest):
                 images = b"P4\n113 4\n" + bytes(60) + header.encode() + bytes(count)
                 self.gives(scan(113, 3, 1, 1), images, wanted)
 
-    def test_grids_before_reading(self):
+    def test_grids_before_reading(self) -> None:
         for module, width, height, columns, rows in [
             (1, 113, 2, 1, 1),
             (2, 226, 4, 1, 1),
@@ -184,14 +184,14 @@ class ScanTest(CommandTest):
                 with Breaking(b"") as broken:
                     self.is_refused(ran(command, broken), "refused 25 BadGrid")
 
-    def test_failed_reads(self):
+    def test_failed_reads(self) -> None:
         images = 2 * image(LOW, 1, 0)
         # Before the first image, in its header, in its dots, and after its last byte.
         for count in [0, 1, 8, 9, 40, 54, 55, 108]:
             with self.subTest(count=count), Breaking(images[:count]) as broken:
                 self.is_refused(ran(scan(113, 3, 1, 1), broken), "refused 37 ReadFault")
 
-    def test_failed_writes(self):
+    def test_failed_writes(self) -> None:
         for room in [0, 1, 26]:
             it = ran_to(room, scan(113, 3, 1, 1), image(LOW, 1, 0))
             self.is_refused(it, "refused 38 WriteFault", LINE.encode()[:room])

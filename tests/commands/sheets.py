@@ -1,5 +1,7 @@
 """Images of labels, drawn by hand or from widths, and checks of them."""
 
+from __future__ import annotations
+
 from program import CommandTest, ran
 from rows import runs
 
@@ -19,23 +21,23 @@ LOW = b"P4\n113 3\n"
 HIGH = b"P4\n113 6\n"
 
 
-def image(header, labelled, light):
+def image(header: bytes, labelled: int, light: int) -> bytes:
     """An image: its header, then cells with the label, then cells without one."""
     return header + labelled * LABEL + light * LIGHT
 
 
-def grid(width, height, columns, rows, module=1):
+def grid(width: int, height: int, columns: int, rows: int, module: int = 1) -> str:
     """The command `print` with such cells, at this many dots a module."""
     return f"print --module {module} --width {width} --height {height} --columns {columns} --rows {rows} --year 2026"
 
 
-def dots_of(left, groups, width):
+def dots_of(left: int, groups: str, width: int) -> str:
     """A row of this many dots: light ones, then the bars and spaces of these widths, and light ones again."""
     dots = "".join("10"[place % 2] * run for place, run in enumerate(runs(groups)))
     return ("0" * left + dots).ljust(width, "0")
 
 
-def packed(dots):
+def packed(dots: str) -> bytes:
     """The bytes of a row of dots."""
     count = (len(dots) + 7) // 8
     return int(dots.ljust(8 * count, "0"), 2).to_bytes(count, "big")
@@ -44,7 +46,7 @@ def packed(dots):
 class SymbolTest(CommandTest):
     """A test of symbols that are printed."""
 
-    def prints(self, width, cases):
+    def prints(self, width: int, cases: list[tuple[str, str]]) -> None:
         """That records, each in a cell of this many dots on a sheet of its own, print as these rows of dots."""
         it = ran(grid(width, 3, 1, 1), "".join(f"{record}\n" for record, _ in cases).encode())
         self.assertEqual((it.status, it.error), (0, b""))

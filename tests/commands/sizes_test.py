@@ -51,7 +51,7 @@ WIDTH = 165
 
 
 class SizesTest(CommandTest):
-    def test_lanes(self):
+    def test_lanes(self) -> None:
         symbols = NUMBERS + TEXTS + REFUSED
         rows = [
             (" ".join(map(str, turned)), f"{answer}\n")
@@ -65,7 +65,7 @@ class SizesTest(CommandTest):
         lines = [f"{lane} {number} {rows[it][1]}" for lane in range(16) for number, it in enumerate(order[lane])]
         self.writes_lines("lanes --lanes 16 --workers 16 --year 2026", given.encode(), lines)
 
-    def test_scan(self):
+    def test_scan(self) -> None:
         # A damaged symbol and a cell without one are among the labels.
         cells = [(dots_of(10, groups, WIDTH), answer) for groups, answer in NUMBERS]
         cells += [(dots_of(10, groups, WIDTH), answer) for groups, answer in REFUSED[-2:]]
@@ -89,7 +89,7 @@ class SizesTest(CommandTest):
         command = f"scan --module 1 --width {WIDTH} --height 3 --columns 16 --rows 64 --workers 16 --year 2026"
         self.writes_lines(command, given, lines)
 
-    def test_print(self):
+    def test_print(self) -> None:
         count = len(LABELS)
         records = 5 * 1_024 + 1_000
         height = 30
@@ -107,7 +107,7 @@ class SizesTest(CommandTest):
         self.assertEqual((it.status, it.error), (0, b""))
         self.assertTrue(it.output == b"".join(wanted))
 
-    def test_print_text(self):
+    def test_print_text(self) -> None:
         count = len(LABELS)
         records = 100_000
         given = "".join(f"{LABELS[it % count][0]}\n" for it in range(records))
@@ -117,7 +117,7 @@ class SizesTest(CommandTest):
             lines.append(f"{it // 1_024} {it % 1_024} {record[:record.index(',')]} {hri}\n")
         self.writes_lines(grid(WIDTH, 3, 16, 64) + " --text", given.encode(), lines)
 
-    def test_check(self):
+    def test_check(self) -> None:
         cases = [(f"gtin,{number}", f"gtin 0{number}\n") for number, _ in EAN13]
         cases += [(f"upce,0{six}{number[-1]}", f"gtin 00{number}\n") for six, number, _ in UPCE]
         cases += [(f"digit,{number[:-1]}", f"digit {number[-1]}\n") for number, _ in EAN8]

@@ -1,5 +1,7 @@
 """Symbols of numbers: each is read in both directions, and printed with the widths that the standards give it."""
 
+from __future__ import annotations
+
 import itertools
 
 from kinds import KINDS
@@ -8,12 +10,12 @@ from sheets import SymbolTest, dots_of
 from symbols import EAN8, EAN13, ITF14, OTHER_UPCE, UPCE
 
 
-def row(kind, groups):
+def row(kind: str, groups: str) -> list[int]:
     """The widths of a symbol between its light ends."""
     return [KINDS[kind].left, *runs(groups), KINDS[kind].right]
 
 
-def replaced(groups, place, group):
+def replaced(groups: str, place: int, group: str) -> str:
     """The same groups with another in one place."""
     parts = groups.split()
     parts[place] = group
@@ -21,19 +23,19 @@ def replaced(groups, place, group):
 
 
 class ReadTest(RowTest):
-    def test_ean13(self):
+    def test_ean13(self) -> None:
         self.reads([(row("ean13", groups), f"]E0 (01)0{number}") for number, groups in EAN13])
 
-    def test_ean8(self):
+    def test_ean8(self) -> None:
         self.reads([(row("ean8", groups), f"]E4 (01)000000{number}") for number, groups in EAN8])
 
-    def test_upce(self):
+    def test_upce(self) -> None:
         self.reads([(row("upce", groups), f"]E0 (01)00{number}") for _, number, groups in UPCE + OTHER_UPCE])
 
-    def test_itf14(self):
+    def test_itf14(self) -> None:
         self.reads([(row("itf14", groups), f"]I1 (01){number}") for number, groups in ITF14])
 
-    def test_wrong_check_digits(self):
+    def test_wrong_check_digits(self) -> None:
         # The character of each other digit in place of the last.
         characters = "3211 2221 2122 1411 1132 1231 1114 1312 1213 3112".split()
         self.reads([
@@ -44,7 +46,7 @@ class ReadTest(RowTest):
             if character != groups.split()[-2]
         ])
 
-    def test_first_digits_by_number_sets(self):
+    def test_first_digits_by_number_sets(self) -> None:
         # The left digits 234567 in each choice of number sets, and the right ones 89012: the first digit of those that
         # have one, with the character of the check digit.
         sets = ["2122 1411 1132 1231 1114 1312".split(), "2212 1141 2311 1321 4111 2131".split()]
@@ -68,7 +70,7 @@ class ReadTest(RowTest):
             cases.append((row("ean13", f"111 {left} 11111 1213 3112 3211 2221 2122 {last} 111"), answer))
         self.reads(cases)
 
-    def test_check_digits_of_upce_by_number_sets(self):
+    def test_check_digits_of_upce_by_number_sets(self) -> None:
         # The six digits 123456, whose check digit is 5, in each choice of number sets.
         sets = ["2221 2122 1411 1132 1231 1114".split(), "1222 2212 1141 2311 1321 4111".split()]
         others = "BBBAAA BBABAA BBAABA BBAAAB BABBAA BAAABB BABABA BABAAB BAABAB".split()
@@ -80,7 +82,7 @@ class ReadTest(RowTest):
             cases.append((row("upce", f"111 {six} 111111"), wanted.get(choice, "refused 23 Pattern")))
         self.reads(cases)
 
-    def test_wide_guards(self):
+    def test_wide_guards(self) -> None:
         # Each run of the guard patterns two modules wide.
         cases = []
         for kind, groups in [("ean13", EAN13[3][1]), ("ean8", EAN8[2][1]), ("upce", UPCE[4][2])]:
@@ -91,7 +93,7 @@ class ReadTest(RowTest):
         self.assertEqual(len(cases), 11 + 11 + 9)
         self.reads(cases)
 
-    def test_other_ends_of_itf14(self):
+    def test_other_ends_of_itf14(self) -> None:
         # Each other choice of narrow and wide elements for the start and for the stop.
         groups = ITF14[1][1]
         cases = []
@@ -100,7 +102,7 @@ class ReadTest(RowTest):
             cases += [(row("itf14", replaced(groups, place, it)), "refused 23 Pattern") for it in sorted(others)]
         self.reads(cases)
 
-    def test_itf14_pairs_without_a_digit(self):
+    def test_itf14_pairs_without_a_digit(self) -> None:
         # The first pair, 76, with each other choice of narrow and wide elements for one of its digits.
         groups = ITF14[0][1]
         cases = []
@@ -114,28 +116,28 @@ class ReadTest(RowTest):
 
 
 class PrintedTest(SymbolTest):
-    def has_widths(self, kind, cases):
+    def has_widths(self, kind: str, cases: list[tuple[str, str]]) -> None:
         """That records of a kind print with these widths in the narrowest cell."""
         left, right = KINDS[kind].left, KINDS[kind].right
         width = left + sum(runs(cases[0][1])) + right
         self.prints(width, [(f"{kind},{number}", dots_of(left, groups, width)) for number, groups in cases])
 
-    def test_ean13(self):
+    def test_ean13(self) -> None:
         self.has_widths("ean13", EAN13)
 
-    def test_upca(self):
+    def test_upca(self) -> None:
         self.has_widths("upca", [(number[1:], groups) for number, groups in EAN13[:1]])
 
-    def test_ean8(self):
+    def test_ean8(self) -> None:
         self.has_widths("ean8", EAN8)
 
-    def test_upce(self):
+    def test_upce(self) -> None:
         self.has_widths("upce", [(number, groups) for _, number, groups in UPCE])
 
-    def test_itf14(self):
+    def test_itf14(self) -> None:
         self.has_widths("itf14", ITF14)
 
-    def test_upce_in_the_first_spelling(self):
+    def test_upce_in_the_first_spelling(self) -> None:
         self.has_widths("upce", [
             ("012000000003", "111 1222 2212 3211 3211 3211 1123 111111"),
             ("098000000014", "111 2113 1213 1123 1123 2221 3211 111111"),

@@ -1,10 +1,13 @@
 """What a person sees if standard error is a terminal: after an error its cause and what to do, as docs/FAULTS.md says it,
 and after refused words what clap says of them. Where standard error is no terminal, the one line stands alone."""
 
+from __future__ import annotations
+
 import os
 import re
 import subprocess
 import tty
+from typing import Any
 
 import program
 from program import CommandTest, ran, room_for
@@ -62,17 +65,17 @@ WORDS = [
 ]
 
 
-def remedies():
+def remedies() -> dict[str, str]:
     """What docs/FAULTS.md says of each number: the cause, and what to do."""
     with open(os.path.join(os.path.dirname(__file__), "..", "..", "docs", "FAULTS.md"), encoding="utf-8") as it:
         rows = re.findall(r"^\| (\d+) [A-Z][A-Za-z0-9()]* \| ([^|]*) \| ([^|]*) \|", it.read(), re.MULTILINE)
-    found = {}
+    found: dict[str, str] = {}
     for number, cause, remedy in rows:
         found.setdefault(number, re.sub(r"\[([^]]*)\]\([^)]*\)", r"\1", f"{cause}: {remedy}".replace("`", "")))
     return found
 
 
-def at_a_terminal(command, given, **how):
+def at_a_terminal(command: str, given: program.Given, **how: Any) -> tuple[int, bytes | None, str]:
     """The exit status, the output and what a terminal shows, where standard error is one."""
     ours, theirs = os.openpty()
     tty.setraw(theirs)
@@ -94,7 +97,7 @@ def at_a_terminal(command, given, **how):
 
 
 class TerminalTest(CommandTest):
-    def test_refusals_with_what_to_do(self):
+    def test_refusals_with_what_to_do(self) -> None:
         said = remedies()
         for command, given, line in REFUSALS:
             with self.subTest(line):
@@ -102,25 +105,26 @@ class TerminalTest(CommandTest):
                 self.assertEqual(at_a_terminal(command, given), (1, b"", f"{line}\n{said[number]}\n"))
                 self.is_refused(ran(command, given), line)
 
-    def test_what_the_machine_refuses(self):
+    def test_what_the_machine_refuses(self) -> None:
         said = remedies()
         folder = os.open("/", os.O_RDONLY)
         with open("/dev/full", "wb") as full, open("/dev/zero", "rb") as zeros:
-            for command, given, how, line in [
+            cases: list[tuple[str, program.Given, dict[str, Any], str]] = [
                 (CHECK, folder, {}, "refused 37 ReadFault"),
                 (CHECK, b"digit,12", {"stdout": full}, "refused 38 WriteFault"),
                 ("--help", b"", {"stdout": full}, "refused 38 WriteFault"),
                 (LANES.replace("--workers 1", "--workers 16"), f"0,{EAN8_ROW}".encode(), room_for(40), "refused 36 NoThread"),
                 (CHECK, 1_500_000 * b"digit,123\n", room_for(8), "refused 43 NoMemory"),
                 (CHECK, zeros, {}, "refused 44 InputSize"),
-            ]:
+            ]
+            for command, given, how, line in cases:
                 with self.subTest(line):
                     number = re.search(r"refused (\d+)", line)[1]
                     status, _, shown = at_a_terminal(command, given, **how)
                     self.assertEqual((status, shown), (1, f"{line}\n{said[number]}\n"))
         os.close(folder)
 
-    def test_words_with_what_clap_says(self):
+    def test_words_with_what_clap_says(self) -> None:
         for command, wanted in WORDS:
             with self.subTest(command):
                 status, output, shown = at_a_terminal(command, b"")
@@ -130,7 +134,7 @@ class TerminalTest(CommandTest):
                     self.assertIn(part, said)
                 self.assertEqual(ran(command, b"").outcome(), (2, b"", "refused 42 Words\n"))
 
-    def test_what_is_not_refused(self):
+    def test_what_is_not_refused(self) -> None:
         for command, given in [(CHECK, b"digit,12\ngtin,1"), ("--help", b""), ("check --help", b""), ("--version", b"")]:
             with self.subTest(command):
                 it = ran(command, given)

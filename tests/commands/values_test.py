@@ -4,10 +4,13 @@ The verdicts are those of the GS1 Syntax Dictionary, which zint 2.15 has; beyond
 others change. The numbers of refusals are those of docs/FAULTS.md.
 """
 
+from __future__ import annotations
+
 import csv
 import itertools
 import os
 import re
+from typing import Iterator
 
 from element_strings import X, is_predefined
 from program import CommandTest, field
@@ -222,14 +225,14 @@ VALUES = """
 """
 
 
-def cases():
+def cases() -> Iterator[tuple[str, str, list[tuple[str, int]]]]:
     """Each AI with its good value and the bad ones with their numbers."""
     for line in VALUES.strip().split("\n"):
         ai, good, *bad = line.split(" ")
         yield ai, good, list(zip(bad[::2], map(int, bad[1::2])))
 
 
-def rows():
+def rows() -> Iterator[tuple[list[str], dict[str, str]]]:
     """The AIs of each line of the table, and the line."""
     with open(AIS, encoding="utf-8", newline="") as file:
         for row in csv.DictReader(file, delimiter="\t", quoting=csv.QUOTE_NONE):
@@ -237,26 +240,26 @@ def rows():
             yield [f"{it:0{len(least)}d}" for it in range(int(least), int(greatest or least) + 1)], row
 
 
-def lines():
+def lines() -> Iterator[tuple[list[str], bool]]:
     """The AIs of each line of the table, and whether they are of the profile."""
     for ais, row in rows():
         yield ais, row["profile"] != "-"
 
 
-def bounds(notation):
+def bounds(notation: str) -> tuple[int, int]:
     """The least and the greatest length of a format: N6 has six digits, N..6 one to six, and what is in brackets may be absent."""
     sizes = [re.fullmatch(r"(\[?)[NXYZ](\.\.)?(\d+)]?", it.split(",")[0]).groups() for it in notation.split(" ")]
     return sum(0 if absent else 1 if upto else int(most) for absent, upto, most in sizes), sum(int(most) for _, _, most in sizes)
 
 
-def pair(model):
+def pair(model: str) -> str:
     """The check characters of a GMN (GS1 General Specifications, section 7.9.5)."""
     primes = [it for it in range(2, 90) if all(it % divisor for divisor in range(2, it))]
     total = sum(prime * X.index(character) for prime, character in zip(primes, reversed(model))) % 1021
     return "".join("23456789ABCDEFGHJKLMNPQRSTUVWXYZ"[it] for it in divmod(total, 32))
 
 
-def outcomes(ai, good, bad):
+def outcomes(ai: str, good: str, bad: list[tuple[str, int]]) -> Iterator[tuple[str, str]]:
     """The records of an AI with their lines."""
     yield f"text,{field(ai + good)}", f"hri ({ai}){good}"
     for value, number in bad:
@@ -264,15 +267,15 @@ def outcomes(ai, good, bad):
 
 
 class ValuesTest(CommandTest):
-    def test_each_line_has_a_case(self):
+    def test_each_line_has_a_case(self) -> None:
         known = [ai for ai, _, _ in cases()]
         for ais, _ in lines():
             self.assertEqual(sum(it in known for it in ais), 1, ais)
 
-    def test_every_ai(self):
+    def test_every_ai(self) -> None:
         self.gives_lines("check --year 2026 --ais all", [it for case in cases() for it in outcomes(*case)])
 
-    def test_the_profile(self):
+    def test_the_profile(self) -> None:
         profile = {ai for ais, is_of_profile in lines() if is_of_profile for ai in ais}
         self.gives_lines("check --year 2026", [
             (record, line if ai in profile else "refused 5 UnknownAi 0")
@@ -280,7 +283,7 @@ class ValuesTest(CommandTest):
             for record, line in outcomes(ai, good, bad)
         ])
 
-    def test_dates_beside_the_rules(self):
+    def test_dates_beside_the_rules(self) -> None:
         # Day 00 is the last of its month at some AIs alone, and what follows a day may be absent at some.
         self.gives_lines("check --year 2026 --ais all", [
             ("text,43242602002359", "hri (4324)2602002359"),
@@ -302,7 +305,7 @@ class ValuesTest(CommandTest):
             ("text,7251202402292460", "refused 9 ValueDate 0"),
         ])
 
-    def test_bounds(self):
+    def test_bounds(self) -> None:
         self.gives_lines("check --year 2026 --ais all", [
             ("text,430918000000003600000000", "hri (4309)18000000003600000000"),
             ("text,430918000000013600000000", "refused 7 ValueCharacter 0"),
@@ -329,7 +332,7 @@ class ValuesTest(CommandTest):
             ("text,8007DE88370400440532013000", "refused 8 ValueCheckDigit 0"),
         ])
 
-    def test_each_character_in_a_gmn(self):
+    def test_each_character_in_a_gmn(self) -> None:
         self.gives_lines("check --year 2026 --ais all", [
             line
             for place, character in itertools.product(range(20), X)
@@ -343,7 +346,7 @@ class ValuesTest(CommandTest):
             if len(model) <= 23
         ])
 
-    def test_one_character_fewer_and_one_more(self):
+    def test_one_character_fewer_and_one_more(self) -> None:
         good = {ai: value for ai, value, _ in cases()}
         told = []
         for ais, row in rows():
@@ -355,13 +358,13 @@ class ValuesTest(CommandTest):
                 told.append((f"text,{field(ai + longer)}", "refused 10 MissingSeparator 0"))
         self.gives_lines("check --year 2026 --ais all", told)
 
-    def are_answered(self, cases):
+    def are_answered(self, cases: list[tuple[str, str, bool]]) -> None:
         """That values of AIs are good, or that a character of them is refused."""
         self.gives_lines("check --year 2026 --ais all", [
             (f"text,{ai}{value}", f"hri ({ai}){value}" if is_good else "refused 7 ValueCharacter 0") for ai, value, is_good in cases
         ])
 
-    def test_the_codes_of_a_list(self):
+    def test_the_codes_of_a_list(self) -> None:
         # Between these characters the codes that the format takes: all others of this length are refused.
         self.are_answered([
             (ai, front + code + back, code in codes)
@@ -376,7 +379,7 @@ class ValuesTest(CommandTest):
             for code in map("".join, itertools.product("0123456789", repeat=len(codes[0])))
         ])
 
-    def test_two_numbers_that_are_compared(self):
+    def test_two_numbers_that_are_compared(self) -> None:
         # A piece and the total of pieces: neither is 0, and the piece is no more than the total.
         edges = [0, 1, 2, 3, 9, 10, 98, 99]
         self.are_answered([
@@ -385,7 +388,7 @@ class ValuesTest(CommandTest):
         ])
         self.are_answered([("7258", f"{place}/{total}", 0 < place <= total) for place, total in itertools.product(range(10), repeat=2)])
 
-    def test_lengths_of_an_iban(self):
+    def test_lengths_of_an_iban(self) -> None:
         # Two letters, two check digits, and an account of at least one character.
         self.gives_lines("check --year 2026 --ais all", [
             ("text,8007", "refused 6 ValueLength 0"),

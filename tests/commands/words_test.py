@@ -1,5 +1,7 @@
 """Command lines: what they ask for, which are refused, and which ask for help."""
 
+from __future__ import annotations
+
 import os
 import re
 
@@ -22,7 +24,7 @@ GRID = [
 
 
 class WordsTest(CommandTest):
-    def test_words_in_any_order(self):
+    def test_words_in_any_order(self) -> None:
         label = image(LOW, 1, 0)
         for words, given, wanted in [
             ("lanes --lanes 3 --workers=16 --year 2026", b"2,0", b"2 0 refused 19 Blank\n"),
@@ -52,7 +54,7 @@ class WordsTest(CommandTest):
             with self.subTest(words):
                 self.assertEqual(ran(words, given).outcome(), (0, wanted, ""))
 
-    def test_the_ends_of_ranges(self):
+    def test_the_ends_of_ranges(self) -> None:
         for words in [
             "print --module 8 --width 4096 --height 256 --columns 4 --rows 64 --year 2149",
             "print --module 1 --width 1024 --height 1024 --columns 16 --rows 16 --year 1951",
@@ -65,14 +67,14 @@ class WordsTest(CommandTest):
             with self.subTest(words):
                 self.assertEqual(ran(words, b"").outcome(), (0, b"", ""))
 
-    def are_refused(self, command, options):
+    def are_refused(self, command: str, options: list[str]) -> None:
         """That the program refuses each of these words of a command."""
         for words in options:
             with self.subTest(words):
                 it = ran(f"{command} {words}", b"")
                 self.assertEqual(it.outcome(), (2, b"", "refused 42 Words\n"))
 
-    def test_refused_words(self):
+    def test_refused_words(self) -> None:
         self.are_refused("", [
             "",
             "gs1_hub",
@@ -120,7 +122,7 @@ class WordsTest(CommandTest):
             "print --module 1 --width 113 --height 3 --columns 1 --rows 1 --year 2026 --text 1",
         ])
 
-    def test_refused_words_of_scan(self):
+    def test_refused_words_of_scan(self) -> None:
         self.are_refused("scan", [
             "",
             " --width 113 --height 3 --columns 1 --rows 1 --workers 1 --year 2026",
@@ -142,7 +144,7 @@ class WordsTest(CommandTest):
             " --module 1 --width 113 --height 3 --columns 1 --rows 1 --workers 1 --year 2026 --text",
         ])
 
-    def test_refused_numbers_of_a_grid(self):
+    def test_refused_numbers_of_a_grid(self) -> None:
         for module, width, height, columns, rows, year in [
             (0, 1, 1, 1, 1, 2026),
             (9, 1, 1, 1, 1, 2026),
@@ -163,13 +165,13 @@ class WordsTest(CommandTest):
         grid = "--module 1 --width 1 --height 1 --columns 1 --rows 1 --year 2026"
         self.are_refused("scan", [f"{grid} --workers 0", f"{grid} --workers 17", f"{grid} --workers 255"])
 
-    def help_of(self, words):
+    def help_of(self, words: str) -> str:
         """The help that these words ask for."""
         it = ran(words, b"")
         self.assertEqual((it.status, it.error), (0, b""))
         return it.output.decode()
 
-    def test_units_and_ranges(self):
+    def test_units_and_ranges(self) -> None:
         for command, options in [
             ("check", [YEAR, AIS]),
             ("lanes", ["--lanes <COUNT> lanes 1 to 16", WORKERS, YEAR, AIS]),
@@ -182,18 +184,18 @@ class WordsTest(CommandTest):
                 with self.subTest(command=command, option=option):
                     self.assertTrue(any(all(word in line for word in option.split()) for line in lines))
 
-    def test_examples(self):
+    def test_examples(self) -> None:
         for command in ["check", "lanes", "live", "print", "scan"]:
             shown = self.help_of(f"{command} --help")
             self.assertRegex(shown, rf"(?m)^  \$ .*gs1_hub {re.escape(command)} --")
             self.assertEqual(self.help_of(f"{command} -h"), shown)
 
-    def test_help_of_the_program(self):
+    def test_help_of_the_program(self) -> None:
         shown = self.help_of("--help")
         for part in ["check", "print", "lanes", "scan", "live", "--help", "--version", "Exit status"]:
             self.assertIn(part, shown)
 
-    def test_the_version(self):
+    def test_the_version(self) -> None:
         for words in ["--version", "-V"]:
             status, output, error = ran(words, b"").outcome()
             self.assertEqual((status, error), (0, ""))

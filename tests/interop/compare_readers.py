@@ -2,15 +2,19 @@
 
 Usage: compare_readers.py PROGRAM FOLDER. The folder is for the images. The texts are the same in each run.
 """
+from __future__ import annotations
+
 import concurrent.futures
 import os
 import random
 import re
 import subprocess
 import sys
+from concurrent.futures import Executor
+from typing import Callable, Iterable, Iterator, Sequence
 
 sys.path.insert(0, os.path.join(os.path.dirname(os.path.abspath(__file__)), "..", "commands"))
-from kinds import KINDS
+from kinds import KINDS, Kind
 
 COUNT = 100
 MODULE = 2
@@ -20,17 +24,17 @@ YEAR = "2026"
 CHARACTERS = "!\"%&'()*+,-./0123456789:;<=>?ABCDEFGHIJKLMNOPQRSTUVWXYZ_abcdefghijklmnopqrstuvwxyz"
 
 
-def digits(chance, count):
+def digits(chance: random.Random, count: int) -> str:
     return "".join(chance.choice("0123456789") for _ in range(count))
 
 
-def checked(text):
+def checked(text: str) -> str:
     """The digits with their check digit (GS1 General Specifications, 7.9.1)."""
     total = sum(int(digit) * (3, 1)[i % 2] for i, digit in enumerate(reversed(text)))
     return text + str(-total % 10)
 
 
-def gtin12(upce):
+def gtin12(upce: str) -> str:
     """The GTIN-12 of the eight digits of a UPC-E (GS1 General Specifications, figure 5.2.2.4-1)."""
     d, last = upce[1:7], int(upce[6])
     if last <= 2:
@@ -47,21 +51,21 @@ def gtin12(upce):
 class Text:
     """A label: the inputs of `print` and zint, what it says, and the same in the form for people."""
 
-    def __init__(self, ours, zint, says, hri):
+    def __init__(self, ours: str, zint: str, says: str, hri: str) -> None:
         self.ours, self.zint, self.says, self.hri = ours, zint, says, hri
 
 
-def of_gtin(gtin, zint=None):
+def of_gtin(gtin: str, zint: str | None = None) -> Text:
     says = gtin.zfill(14)
     return Text(gtin, zint or gtin[:-1], says, "(01)" + says)
 
 
-def gtin(count, first="0123456789"):
+def gtin(count: int, first: str = "0123456789") -> Callable[[random.Random], Text]:
     """A GTIN of this many digits that begins with one of these. zint adds the check digit."""
     return lambda chance: of_gtin(checked(chance.choice(first) + digits(chance, count - 2)))
 
 
-def upce(chance):
+def upce(chance: random.Random) -> Text:
     six = list(digits(chance, 6))
     # The first spelling of a number: no later line of the table has another.
     if six[5] == "3":
@@ -74,19 +78,19 @@ def upce(chance):
     return of_gtin(gtin12(seven + "0"), seven)
 
 
-def date(chance):
+def date(chance: random.Random) -> str:
     return "%02d%02d%02d" % (chance.randrange(100), chance.randrange(1, 13), chance.randrange(1, 29))
 
 
-def characters(most):
+def characters(most: int) -> Callable[[random.Random], str]:
     return lambda chance: "".join(chance.choice(CHARACTERS) for _ in range(chance.randrange(1, most + 1)))
 
 
-def numbers(least, most):
+def numbers(least: int, most: int) -> Callable[[random.Random], str]:
     return lambda chance: digits(chance, chance.randrange(least, most + 1))
 
 
-def checked_numbers(count):
+def checked_numbers(count: int) -> Callable[[random.Random], str]:
     return lambda chance: checked(digits(chance, count - 1))
 
 
@@ -126,7 +130,7 @@ ELEMENTS = [
 ]
 
 
-def gs1128(chance):
+def gs1128(chance: random.Random) -> Text:
     """Up to four elements of different AIs, in at most 48 characters."""
     while True:
         elements = [(ai, fixed, value(chance))
@@ -146,15 +150,15 @@ def gs1128(chance):
 TEXTS = {"ean13": gtin(13, "123456789"), "upca": gtin(12), "ean8": gtin(8), "upce": upce, "itf14": gtin(14), "gs1128": gs1128}
 
 
-def run(words, data=b""):
+def run(words: Sequence[str], data: bytes = b"") -> subprocess.CompletedProcess[bytes]:
     return subprocess.run(words, input=data, stdout=subprocess.PIPE, stderr=subprocess.PIPE)
 
 
-def quoted(text):
+def quoted(text: str) -> str:
     return '"' + text.replace('"', '""') + '"'
 
 
-def number(kind, read):
+def number(kind: Kind, read: str) -> str:
     """What a reader read; a number as 14 digits, a UPC-E as its eight."""
     if kind.word == "gs1128":
         return read
@@ -163,7 +167,7 @@ def number(kind, read):
     return read.zfill(14)
 
 
-def images_of(data):
+def images_of(data: bytes) -> list[bytes]:
     """The PBM images that stand one after another."""
     images = []
     while data:
@@ -175,14 +179,14 @@ def images_of(data):
     return images
 
 
-def by_zbarimg(kind, image):
+def by_zbarimg(kind: Kind, image: str) -> tuple[str, str]:
     """The symbology and the text that zbarimg reads in an image."""
     told = run(["zbarimg", "--quiet", "--nodbus", image]).stdout.decode("latin-1")
     name, _, read = told.rstrip("\n").partition(":")
     return name, number(kind, read)
 
 
-def by_zxing(kind, image):
+def by_zxing(kind: Kind, image: str) -> tuple[str | None, str | None, str]:
     """The symbology, the identifier and the text that ZXingReader reads in an image."""
     told = run(["ZXingReader", image]).stdout.decode("latin-1")
     found = dict(re.findall(r"^(\w+): +(.*?) *$", told, re.MULTILINE))
@@ -190,7 +194,7 @@ def by_zxing(kind, image):
     return found.get("Format"), found.get("Identifier"), number(kind, read)
 
 
-def printed(program, kind, texts, folder):
+def printed(program: str, kind: Kind, texts: list[Text], folder: str) -> list[str]:
     """The sheets of the texts, one label each, as PNG files."""
     records = "".join("%s,%s\n" % (kind.word, quoted(text.ours)) for text in texts)
     sizes = ["--module", str(MODULE), "--width", str(MODULE * kind.wide), "--height", "100"]
@@ -206,7 +210,7 @@ def printed(program, kind, texts, folder):
     return paths
 
 
-def drawn(kind, text, path):
+def drawn(kind: Kind, text: Text, path: str) -> list[int]:
     """The runs of the middle row of zint's symbol, in dots, light first and light last."""
     told = run(["zint", "--barcode=" + kind.zint, "--data=" + text.zint, "--output=" + path, "--notext",
                 "--scale=1", "--height=20", "--whitesp=12", "--bind", "--border=0"])
@@ -232,14 +236,14 @@ def drawn(kind, text, path):
     return runs if len(runs) % 2 else runs + [0]
 
 
-def answered(program, rows):
+def answered(program: str, rows: Iterable[list[int]]) -> list[str]:
     """The answers of `lanes` to the rows, in their order."""
     records = "".join("0,%s\n" % " ".join(map(str, runs)) for runs in rows)
     told = run([program, "lanes", "--lanes", "1", "--workers", "2", "--year", YEAR], records.encode())
     return [line.split(" ", 2)[2] for line in told.stdout.decode().splitlines()]
 
 
-def compare(name, wanted, found):
+def compare(name: str, wanted: Sequence[object], found: Sequence[object]) -> tuple[int, int]:
     """Prints how many are as wanted, and each other one."""
     right = 0
     for want, find in zip(wanted, found):
@@ -251,7 +255,7 @@ def compare(name, wanted, found):
     return right, len(wanted)
 
 
-def try_kind(program, kind, folder, pool):
+def try_kind(program: str, kind: Kind, folder: str, pool: Executor) -> Iterator[tuple[int, int]]:
     chance = random.Random(kind.word)
     texts = [TEXTS[kind.word](chance) for _ in range(COUNT)]
     paths = printed(program, kind, texts, folder)
@@ -268,7 +272,7 @@ def try_kind(program, kind, folder, pool):
                   answered(program, [runs[::-1] for runs in rows]))
 
 
-def main():
+def main() -> None:
     program, folder = sys.argv[1:]
     right = tried = 0
     with concurrent.futures.ThreadPoolExecutor() as pool:

@@ -2,12 +2,15 @@
 
 Prints a line for each part; the last one has the counts.
 """
+from __future__ import annotations
+
 import contextlib
 import io
 import os
 import random
 import re
 import sys
+from typing import Callable
 
 from noriladle import labels as shop
 from noriladle.__main__ import main as main_of_noriladle
@@ -17,28 +20,32 @@ YEAR = 2026
 FAULTS = []
 
 
-def list_of(name):
+def list_of(name: str) -> list[bytes]:
     with open(os.path.join(LISTS, name), "rb") as file:
         return file.read().splitlines(keepends=True)
 
 
 # ---- lists with one fault, in a line that is known
 
-def one_digit(chance, row):
+Edit = Callable[[random.Random, bytes], bytes]
+"""Makes a fault in a line."""
+
+
+def one_digit(chance: random.Random, row: bytes) -> bytes:
     """Another digit in the number: the check digit finds each."""
     at = chance.choice([it.start() for it in re.finditer(rb"\d", row.split(b";")[0])])
     return row[:at] + bytes([48 + (row[at] - 48 + chance.randrange(1, 10)) % 10]) + row[at + 1:]
 
 
-def in_cell(place, value):
-    def edit(chance, row):
+def in_cell(place: int, value: bytes) -> Edit:
+    def edit(chance: random.Random, row: bytes) -> bytes:
         cells = row.rstrip(b"\n").split(b";")
         cells[place] = value
         return b";".join(cells) + b"\n"
     return edit
 
 
-def too_long(chance, row):
+def too_long(chance: random.Random, row: bytes) -> bytes:
     return b"12" + row
 
 
@@ -52,7 +59,7 @@ EDITS = {
 }
 
 
-def try_lists(count):
+def try_lists(count: int) -> tuple[int, int]:
     """Runs the command on lists with one fault each: it must name the line, and write nothing."""
     chance, refused = random.Random(5), 0
     heading, *rows = [line for line in list_of("prices.csv") if b'"' not in line]
@@ -84,7 +91,7 @@ PIECES = [b'"', b";", b",", b"\t", b"\r", b"\n", b"\0", b"\xff", b"\xef\xbb\xbf"
           b"%s", b"{}", b"<&>", b"]E0", b"[10]", b"https://", b"\x1f", b"sep=;\n", b"gtin"]
 
 
-def try_damage(count):
+def try_damage(count: int) -> tuple[int, int]:
     """Each list is made into labels that say numbers of the list, or refused with a line; nothing else is raised."""
     chance, stock, fonts = random.Random(7), shop.stock_of("L7163"), shop.fonts_of()
     heading, *rows = list_of("prices.csv")
@@ -110,7 +117,7 @@ def try_damage(count):
     return made + refused, count
 
 
-def main():
+def main() -> None:
     parts = [try_lists(480), try_damage(2_000)]
     print("\n".join(FAULTS[:20]), file=sys.stderr, end="\n" if FAULTS else "")
     print(f"{parts[0][0]} of {parts[0][1]} lists with a fault, {parts[1][0]} of {parts[1][1]} damaged lists as they must be; {len(FAULTS)} wrong")

@@ -1,15 +1,18 @@
 """Makes lists as shops have them, and damages them by a seed. What labels may say of each line is noted in it."""
+from __future__ import annotations
+
 import csv
 import io
 import random
 import re
+from typing import Iterable
 
 
-def checked(digits):
+def checked(digits: str) -> str:
     return digits + str(-sum(int(digit) * (3, 1)[at % 2] for at, digit in enumerate(reversed(digits))) % 10)
 
 
-def is_gtin(text):
+def is_gtin(text: str) -> bool:
     return re.fullmatch(r"\d{8}|\d{12,14}", text) is not None and checked(text[:-1]) == text and int(text) > 0
 
 
@@ -38,7 +41,7 @@ class Row:
     number with another name or price.
     """
 
-    def __init__(self, cells, kind="article", prices=()):
+    def __init__(self, cells: Iterable[str], kind: str = "article", prices: Iterable[int] = ()) -> None:
         self.cells, self.kind, self.prices = list(cells), kind, set(prices)
         self.line, self.under, self.is_unclear = 0, None, False
 
@@ -46,17 +49,19 @@ class Row:
 class List:
     """A list before and after its damages."""
 
-    def __init__(self, chance):
+    def __init__(self, chance: random.Random) -> None:
         self.chance = chance
         self.headings, self.kinds = chance.choice(FORMS)
         self.headings, self.delimiter = list(self.headings), chance.choice([";", ";", "\t", ","])
         self.decimal = "." if self.delimiter == "," and chance.random() < 0.7 else ","
         self.encoding = chance.choice(["utf-8", "utf-8-sig", "utf-16"])
-        self.ends, self.trailing, self.damages = ["\r\n"], 0, []
+        self.ends, self.trailing = ["\r\n"], 0
+        self.damages: list[str] = []
         self.rows = [self.article(number) for number in range(chance.randrange(3, 9))]
-        self.raw_quote = self.other_line = None
+        self.raw_quote: Row | None = None
+        self.other_line: int | None = None
 
-    def article(self, number):
+    def article(self, number: int) -> Row:
         chance, cents = self.chance, self.chance.randrange(120, 2000)
         said = {
             "gtin": checked(f"40123{chance.randrange(10 ** 5):05}{number:02}"),
@@ -69,16 +74,16 @@ class List:
         }
         return Row([said[kind] for kind in self.kinds], prices=[cents])
 
-    def money(self, cents):
+    def money(self, cents: int) -> str:
         return f"{cents // 100}{self.decimal}{cents % 100:02}"
 
-    def place(self, kind):
+    def place(self, kind: str) -> int:
         return self.kinds.index(kind)
 
-    def an_article(self):
+    def an_article(self) -> Row:
         return self.chance.choice([row for row in self.rows if row.kind == "article"])
 
-    def text(self):
+    def text(self) -> list[str]:
         """The list's lines. Notes in each row its line, and the line with an open quotation mark before it."""
         lines, open_at, end = [], None, ""
         for line, row in enumerate([Row(self.headings, "heading"), *self.rows], 1):
@@ -95,7 +100,7 @@ class List:
             lines.append(text + end)
         return lines
 
-    def saved(self):
+    def saved(self) -> bytes:
         parts = self.text()
         data = [
             part.encode(self.encoding.replace("utf-16", "utf-16-le").replace("-sig", ""), "replace") for part in parts
@@ -109,11 +114,11 @@ class List:
 # ---- the damages: each changes a list, and notes what may no longer be printed
 
 
-def beyond(a_list):
+def beyond(a_list: List) -> None:
     a_list.an_article().cells.extend(a_list.chance.choice([["note"], ["", "note"], ["1,20"], ["a", "b", "c"]]))
 
 
-def dropped(a_list):
+def dropped(a_list: List) -> None:
     """A cell is missing, so the cells behind it stand one column to the left."""
     row, price = a_list.an_article(), a_list.place("price")
     at = a_list.chance.randrange(len(row.cells))
@@ -124,7 +129,7 @@ def dropped(a_list):
         )
 
 
-def split_comma(a_list):
+def split_comma(a_list: List) -> None:
     """A price with a decimal comma, not quoted, in a list with commas between the cells."""
     row, at = a_list.an_article(), a_list.place("price")
     if a_list.delimiter == a_list.decimal and at < len(row.cells):
@@ -138,13 +143,13 @@ NO_PRICES = [
 ]
 
 
-def no_price(a_list):
+def no_price(a_list: List) -> None:
     row, at = a_list.an_article(), a_list.place("price")
     if at < len(row.cells):
         row.cells[at], row.prices = a_list.chance.choice(NO_PRICES), set()
 
 
-def doubled(a_list):
+def doubled(a_list: List) -> None:
     """The same number twice, with another name or another price: which one is right, nobody knows."""
     row = a_list.an_article()
     other, kind = Row(row.cells), a_list.chance.choice(["name", "price"])
@@ -154,13 +159,13 @@ def doubled(a_list):
         a_list.rows.insert(a_list.chance.randrange(len(a_list.rows) + 1), other)
 
 
-def repeated(a_list):
+def repeated(a_list: List) -> None:
     """The same line twice: nothing is unclear."""
     row = a_list.an_article()
     a_list.rows.append(Row(row.cells, prices=row.prices))
 
 
-def blank_rows(a_list):
+def blank_rows(a_list: List) -> None:
     for _ in range(a_list.chance.randrange(1, 4)):
         a_list.rows.insert(
             a_list.chance.randrange(len(a_list.rows) + 1),
@@ -168,7 +173,7 @@ def blank_rows(a_list):
         )
 
 
-def totals(a_list):
+def totals(a_list: List) -> None:
     cells = [""] * len(a_list.headings)
     cells[a_list.chance.choice([a_list.place("gtin"), a_list.place("name")])] = a_list.chance.choice(
         ["Summe", "Total", "Gesamt", "3 Artikel"]
@@ -177,7 +182,7 @@ def totals(a_list):
     a_list.rows.append(Row(cells, "other"))
 
 
-def categories(a_list):
+def categories(a_list: List) -> None:
     for _ in range(a_list.chance.randrange(1, 3)):
         cells = [""] * len(a_list.headings)
         cells[a_list.chance.choice([a_list.place("gtin"), a_list.place("name")])] = a_list.chance.choice(
@@ -186,14 +191,14 @@ def categories(a_list):
         a_list.rows.insert(a_list.chance.randrange(len(a_list.rows) + 1), Row(cells, "other"))
 
 
-def code_page(a_list):
+def code_page(a_list: List) -> None:
     a_list.encoding = a_list.chance.choice(["cp1252", "cp1252", "cp1250", "cp850", "mac_roman"])
     for row in a_list.rows:
         row.cells = [cell.encode(a_list.encoding, "replace").decode(a_list.encoding) for cell in row.cells]
     a_list.headings = [cell.encode(a_list.encoding, "replace").decode(a_list.encoding) for cell in a_list.headings]
 
 
-def mixed_encoding(a_list):
+def mixed_encoding(a_list: List) -> None:
     """One line of another encoding, as when two lists are put together."""
     if a_list.encoding.startswith("utf-8"):
         a_list.other_line = a_list.chance.randrange(1, len(a_list.rows) + 1)
@@ -201,29 +206,29 @@ def mixed_encoding(a_list):
         row.cells = [cell.encode("cp1252", "replace").decode("cp1252") for cell in row.cells]
 
 
-def open_quote(a_list):
+def open_quote(a_list: List) -> None:
     if a_list.kinds[0] == "gtin":
         row = a_list.an_article()
         if len(row.cells) > 1 and not set(row.cells[1]) & set('"' + a_list.delimiter):
             a_list.raw_quote = row
 
 
-def line_ends(a_list):
+def line_ends(a_list: List) -> None:
     a_list.ends = a_list.chance.choice([["\r", "\n", "\r\n"], ["\r"], ["\n"], ["\n", "\r\n"]])
 
 
-def trailing(a_list):
+def trailing(a_list: List) -> None:
     a_list.trailing = a_list.chance.randrange(1, 4)
 
 
-def leading(a_list):
+def leading(a_list: List) -> None:
     """A blank cell before the others shifts a line."""
     row = a_list.an_article()
     row.cells.insert(0, "")
     row.prices = set()
 
 
-def wrong_number(a_list):
+def wrong_number(a_list: List) -> None:
     row, at = a_list.an_article(), a_list.place("gtin")
     if at < len(row.cells):
         row.cells[at] = a_list.chance.choice(
@@ -234,7 +239,7 @@ def wrong_number(a_list):
         )
 
 
-def nameless(a_list):
+def nameless(a_list: List) -> None:
     """A column without a heading, which is not printed."""
     at = next((at for at, kind in enumerate(a_list.kinds) if kind in ("cost", "batch", "day", "remark")), None)
     if at is not None:
@@ -248,7 +253,7 @@ DAMAGES = [
 ]
 
 
-def damaged(seed, number):
+def damaged(seed: int, number: int) -> List:
     """A list with none to three damages. What swallows lines or moves the code page comes last."""
     chance = random.Random(seed * 1_000_003 + number)
     a_list = List(chance)

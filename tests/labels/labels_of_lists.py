@@ -1,9 +1,11 @@
 """Works out the labels that the lists of this folder ask for, without any part of noriladle."""
+from __future__ import annotations
+
 import csv
 import re
 
 
-def gtin12(upce):
+def gtin12(upce: str) -> str:
     """The GTIN-12 of the eight digits of a UPC-E (GS1 General Specifications, figure 5.2.2.4-1)."""
     d, last = upce[1:7], int(upce[6])
     if last <= 2:
@@ -20,7 +22,7 @@ def gtin12(upce):
 class Label:
     """A wanted label: its kind, a reader's answer, the digits under its bars, its name and its price."""
 
-    def __init__(self, row):
+    def __init__(self, row: dict[str, str]) -> None:
         number, elements = re.sub(r"[ -]", "", row.get("ean") or ""), row.get("gs1") or ""
         self.name, self.price = row.get("name") or "", row.get("price") or ""
         self.lines = [row[key] for key in row if key and key.startswith("line") and row[key]]
@@ -42,10 +44,11 @@ class Label:
 FIXED = {"00": 18, "01": 14, "02": 14, "17": 6, "3103": 6}
 
 
-def elements_of(text):
+def elements_of(text: str) -> tuple[str, str]:
     """An element string without separators, and in the form for people."""
     if text[0] == "^":
-        pairs, rest = [], text[1:].replace("^", "")
+        rest = text[1:].replace("^", "")
+        pairs: list[tuple[str, str]] = []
         for ai in ("01", "3103", "17"):  # The one such text of cases.csv.
             value = rest[len(ai):len(ai) + FIXED[ai]]
             assert rest.startswith(ai), text
@@ -57,7 +60,7 @@ def elements_of(text):
     return "".join(ai + value for ai, value in pairs), "".join(f"({ai}){value}" for ai, value in pairs)
 
 
-def labels_of(path):
+def labels_of(path: str) -> list[Label]:
     """The labels of a list, with all copies."""
     with open(path, encoding="utf-8") as file:
         rows = [Label(row) for row in csv.DictReader(file, delimiter=";")]

@@ -1,9 +1,12 @@
 """Tests the time and memory of the commands: limits.py LISTS WORK. It measures processor time, since others may use the machine."""
+from __future__ import annotations
+
 import os
 import random
 import resource
 import subprocess
 import sys
+from typing import Any
 
 from plain_xlsx import write_xlsx
 
@@ -11,11 +14,11 @@ WORK = sys.argv[2]
 FAULTS = []
 
 
-def checked(text):
+def checked(text: str) -> str:
     return text + str(-sum(int(digit) * (3, 1)[at % 2] for at, digit in enumerate(reversed(text))) % 10)
 
 
-def measure(name, words, seconds, megabytes=0, status=0):
+def measure(name: str, words: list[str], seconds: float, megabytes: int = 0, status: int = 0) -> float:
     """Runs noriladle three times in a process of its own, compares the best run with the limits, and returns its seconds."""
     best = (1e9, 1e9)
     for _ in range(3):
@@ -31,7 +34,7 @@ def measure(name, words, seconds, megabytes=0, status=0):
     return best[0]
 
 
-def main():
+def main() -> None:
     chance = random.Random(1)
     names = ["Haferkekse", "Roggenbrot 500 g", "Apfelsaft 1 l", "Blütenhonig aus der Lüneburger Heide, cremig, 500 g", "Öl"]
     rows = [f"{checked(f'4012345{number:05}')};{chance.choice(names)} {number};{chance.randrange(1, 20)},{chance.randrange(100):02} €\n"
@@ -52,6 +55,7 @@ def main():
     for count in (1, 3):
         with open(long, "w", encoding="ascii") as file:
             file.writelines(f"{checked(str(number))}\n" for number in range(10**12, 10**12 + 1_000_000 * count))
+        words: Any
         for words, limit in (([], 2 * count + 0.5), (["--json"], 10 * count)):
             measure(f"check of {count},000,000 numbers{' as JSON' if words else ''}", ["check", long, *words], limit, 80)
     refused = {"100,000 lines": "ean;name;price\n" + "4012345010008;x;1,00\n" * 100_000, "too many cells": ";" * 16_000_000,
@@ -67,7 +71,7 @@ def main():
     sys.exit(1 if FAULTS else 0)
 
 
-def run_once(words):
+def run_once(words: list[str]) -> None:
     """Runs noriladle, and reports its processor seconds and megabytes on standard error."""
     done = subprocess.run([sys.executable, "-m", "noriladle", *words], stderr=subprocess.PIPE)
     used = resource.getrusage(resource.RUSAGE_CHILDREN)

@@ -1,4 +1,6 @@
 """Writes large spreadsheets with one sheet, for the limits of time. LibreOffice opens them."""
+from __future__ import annotations
+
 import xml.sax.saxutils
 import zipfile
 
@@ -9,7 +11,7 @@ RELATIONS = "http://schemas.openxmlformats.org/officeDocument/2006/relationships
 TYPE = "application/vnd.openxmlformats-officedocument.spreadsheetml"
 
 
-def relations(kind, target):
+def relations(kind: str, target: str) -> str:
     """The part that says what a part refers to."""
     return (
         f'<Relationships xmlns="{PACKAGE}/relationships">'
@@ -34,14 +36,14 @@ PARTS = {
 }
 
 
-def cell(place, text):
+def cell(place: str, text: str) -> str:
     """A cell: digits in the first column as a number, all else as a text."""
     if text.isdecimal() and place.startswith("A"):
         return f'<c r="{place}"><v>{text}</v></c>'
     return f'<c r="{place}" t="inlineStr"><is><t>{xml.sax.saxutils.escape(text)}</t></is></c>'
 
 
-def write_xlsx(path, rows):
+def write_xlsx(path: str, rows: list[list[str]]) -> None:
     """Writes rows of texts, at most 26 in a row."""
     data = "".join(
         f'<row r="{line}">{"".join(cell(f"{chr(65 + at)}{line}", text) for at, text in enumerate(row))}</row>'

@@ -4,13 +4,16 @@ Runs `noriladle labels` on each heading of headings.csv, each list of lists/ and
 the options that answer a question. Each answer is right, or a question, or wrong. Prints a line of counts for each
 part. What is wrong stands on standard error.
 """
+from __future__ import annotations
+
 import csv
 import io
 import os
 import re
 import sys
+from typing import Sequence
 
-from printed import cents_in_cell, labels_of, run
+from printed import Run, cents_in_cell, labels_of, run
 
 LISTS, WORK = sys.argv[1:]
 FOLDER = os.path.join(LISTS, "lists")
@@ -18,12 +21,12 @@ SEPARATORS = {"comma": ",", "semicolon": ";", "tab": "\t", "pipe": "|"}
 FAULTS = []
 
 
-def rows_of(name):
+def rows_of(name: str) -> list[dict[str, str]]:
     with open(os.path.join(LISTS, name), encoding="utf-8", newline="") as file:
         return list(csv.DictReader(file, delimiter=";"))
 
 
-def told(part, name, answer, done):
+def told(part: str, name: str, answer: str, done: Run) -> None:
     """Notes a wrong answer with what the command said."""
     FAULTS.append(
         f"{part}: {name}: {answer}; status {done.status}: {done.said[:4]}; "
@@ -45,7 +48,7 @@ COSTS = {
 }
 
 
-def of_one_line(headings, cells):
+def of_one_line(headings: Sequence[str], cells: Sequence[str]) -> Run:
     """Runs a list of one line with these columns behind the number and the name."""
     path = os.path.join(WORK, "list.csv")
     with open(path, "w", encoding="utf-8", newline="") as file:
@@ -53,7 +56,7 @@ def of_one_line(headings, cells):
     return labels_of(path, WORK)
 
 
-def answer_of(done, heading, wanted):
+def answer_of(done: Run, heading: str, wanted: int | None) -> str:
     """`right` if the label has this price and no other, `asked` if this heading is asked about, or else `wrong`."""
     if done.status == 0:
         is_right = wanted is not None and [label.prices(NAME) for label in done.labels] == [[wanted]]
@@ -61,7 +64,7 @@ def answer_of(done, heading, wanted):
     return "asked" if done.status == 1 and not done.labels and done.names([heading]) else "wrong"
 
 
-def heading_answer(row):
+def heading_answer(row: dict[str, str]) -> str:
     """The answers of a list with this heading alone, and of a list that has another price before it and after it."""
     heading, kind, plain = row["heading"], row["is"], PRICES[row["language"]]
     # An old price is above the price.
@@ -90,7 +93,7 @@ def heading_answer(row):
     return "wrong" if "wrong" in answers else "asked" if "asked" in answers else "right"
 
 
-def try_headings():
+def try_headings() -> None:
     answers = {"right": 0, "asked": 0, "wrong": 0}
     for row in rows_of("headings.csv"):
         answer = heading_answer(row)
@@ -106,7 +109,7 @@ def try_headings():
 class Expected:
     """A list with what a person reads in it."""
 
-    def __init__(self, row):
+    def __init__(self, row: dict[str, str]) -> None:
         self.path, self.decimals, self.name = os.path.join(FOLDER, row["file"]), row["decimals"], row["file"]
         self.may_ask, self.candidates = row["price"].endswith(" or ask"), []
         self.price = row["price"].removesuffix(" or ask")
@@ -118,7 +121,7 @@ class Expected:
         self.headings, self.lines = rows[at], rows[at + 1 :]
         self.gtin, self.called = self.headings.index(row["gtin"]), self.headings.index(row["name"])
 
-    def wrong_with(self, done, place):
+    def wrong_with(self, done: Run, place: int) -> str:
         """What is wrong with the labels, if the price stands in this column; nothing if all is right."""
         numbers = [label.number for label in done.labels]
         for cells in self.lines:
@@ -132,7 +135,7 @@ class Expected:
                     return f"{cells[place]} is wanted: {label.texts}"
         return self.silent(done, place, numbers)
 
-    def silent(self, done, place, numbers):
+    def silent(self, done: Run, place: int, numbers: list[str]) -> str:
         """A column with cells that are neither on the labels nor named as unused."""
         for at, heading in enumerate(self.headings):
             counted = all(str(numbers.count(cells[self.gtin])) == cells[at] for cells in self.lines)
@@ -146,21 +149,21 @@ class Expected:
                 return f"the column '{heading}' is dropped in silence"
         return ""
 
-    def answers(self, place):
+    def answers(self, place: int) -> list[str]:
         """The options that answer every question of this list, with its price in this column."""
         pairs = [("gtin", self.gtin), ("name", self.called), ("price", place)]
         return [word for name, at in pairs for word in ("--column", f"{name}={self.column(at)}")]
 
-    def column(self, at):
+    def column(self, at: int) -> str:
         return self.headings[at] if self.headings.count(self.headings[at]) == 1 else str(at + 1)
 
-    def places(self):
+    def places(self) -> list[int]:
         """The columns that may be the answer."""
         wanted = self.candidates or [self.price]
         return [at for at, heading in enumerate(self.headings) if heading in wanted]
 
 
-def list_answer(wanted):
+def list_answer(wanted: Expected) -> tuple[str, str, Run]:
     """The answer to a list, and what is wrong with it.
 
     A question must name its candidates, and each answer to it must be obeyed.
@@ -183,7 +186,7 @@ def list_answer(wanted):
     return "asked", "" if wanted.may_ask else "it has one price under a usual heading", done
 
 
-def try_lists():
+def try_lists() -> None:
     with open(os.path.join(FOLDER, "expected.csv"), encoding="utf-8", newline="") as file:
         lists = [Expected(row) for row in csv.DictReader(file, delimiter=";")]
     answers = {"right": 0, "asked": 0, "wrong": 0}
@@ -200,7 +203,7 @@ def try_lists():
 # ---- what stands outside the heading of the price
 
 
-def try_remarks():
+def try_remarks() -> None:
     """Lists whose titles, further lines or other columns say what the prices are, and lists that only look so."""
     answers = {"right": 0, "wrong": 0}
     path = os.path.join(WORK, "list.csv")
@@ -227,7 +230,7 @@ def try_remarks():
 # ---- mistakes in numbers
 
 
-def is_gtin(digits):
+def is_gtin(digits: str) -> bool:
     return (
         len(digits) in (8, 12, 13, 14)
         and sum(int(digit) * (1, 3)[at % 2] for at, digit in enumerate(reversed(digits))) % 10 == 0
@@ -237,7 +240,7 @@ def is_gtin(digits):
 EXAMPLE = "09501101530003"  # The number of GS1's examples: advice may show it.
 
 
-def numbers_in(text):
+def numbers_in(text: str) -> set[str]:
     """The article numbers that a text names, in 14 digits."""
     return {digits.zfill(14) for digits in re.findall(r"(?:\]E\d)?(\d+)", text) if is_gtin(digits)} - {EXAMPLE}
 
@@ -245,7 +248,7 @@ def numbers_in(text):
 class Mistake:
     """A cell with a mistake, what was meant, and which other numbers a person may think of."""
 
-    def __init__(self, row):
+    def __init__(self, row: dict[str, str]) -> None:
         self.name = f"{row['mistake']} ({row['cell']})"
         self.cell = (
             re.sub(r"\\u(....)", lambda found: chr(int(found[1], 16)), row["cell"])
@@ -262,15 +265,15 @@ class Mistake:
                 [["EAN", "Name", "Preis"], [self.cell, NAME, "2,49"], ["4012345010374", "Bread", "3,19"]]
             )
 
-    def without_cell(self, line):
+    def without_cell(self, line: str) -> str:
         """A line without the cell, where it stands by itself and not in a longer number."""
         return re.sub(rf"(?<!\d){re.escape(self.cell)}(?!\d)", "", line)
 
-    def taken(self, number):
+    def taken(self, number: str) -> str:
         """The answer, if the command takes this number for what was meant."""
         return "right" if self.may_correct and number.zfill(14) in self.meant else f"it took {number}"
 
-    def by_labels(self):
+    def by_labels(self) -> tuple[str, Run]:
         """What `labels` does: it prints the number that was meant, or names it, or asks without a number."""
         done = labels_of(self.path, WORK)
         printed = [label.number for label in done.labels if NAME in label.text]
@@ -291,7 +294,7 @@ class Mistake:
             return f"the advice lacks what was meant: {sorted(named)}", done
         return ("right" if named & self.meant else "asked"), done
 
-    def by_check(self):
+    def by_check(self) -> tuple[str, Run]:
         """What `check --fix` writes: the number that was meant, or the cell as it was, with status 1."""
         fixed = os.path.join(WORK, "fixed.csv")
         if os.path.exists(fixed):
@@ -309,7 +312,7 @@ class Mistake:
         return "asked" if is_asked else "it was left as it was, with status 0", done
 
 
-def try_mistakes():
+def try_mistakes() -> None:
     answers = {"right": 0, "asked": 0, "wrong": 0}
     for row in rows_of("mistakes.csv"):
         mistake = Mistake(row)
@@ -326,7 +329,7 @@ def try_mistakes():
 
 BAD = "4012345010374;Bread;on request"
 # A list, the options, the status, the prices of its labels, and words that must be said. Lines end with |.
-ANSWERS = [
+ANSWERS: list[tuple[str, list[str], int, list[list[int]], str]] = [
     ("EAN;Name;EK|4012345010008;Biscuits;4,18", [], 1, [], "EK"),
     ("EAN;Name;EK|4012345010008;Biscuits;4,18", ["--no-price"], 0, [[]], "EK"),
     ("EAN;Name;EK;VK|4012345010008;Biscuits;4,18;7,31", ["--column", "price=EK"], 0, [[418]], "VK"),
@@ -346,7 +349,7 @@ ANSWERS = [
 ]
 
 
-def try_answers():
+def try_answers() -> None:
     right = 0
     for text, options, status, prices, words in ANSWERS:
         path = os.path.join(WORK, "list.csv")
@@ -363,7 +366,7 @@ def try_answers():
     print(f"options: {right} of {len(ANSWERS)} as they must be")
 
 
-def try_encodings():
+def try_encodings() -> None:
     """A code page that --encoding names is taken, and an unknown one is refused."""
     right, names = 0, {
         "cp1250": "Żurek",
@@ -391,7 +394,7 @@ def try_encodings():
     print(f"encodings: {right} of {len(names)} as they must be")
 
 
-def main():
+def main() -> None:
     try_headings()
     try_lists()
     try_remarks()

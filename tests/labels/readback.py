@@ -3,6 +3,8 @@
 It cuts out each label with its whole cell, and must read exactly that label. Prints a line for each format; the last one
 has the counts.
 """
+from __future__ import annotations
+
 import base64
 import concurrent.futures
 import csv
@@ -16,10 +18,11 @@ import shutil
 import subprocess
 import sys
 import xml.etree.ElementTree
+from typing import Any, Callable, Iterable, Iterator, List, Sequence
 
 from PIL import Image
 
-from labels_of_lists import gtin12, labels_of
+from labels_of_lists import Label, gtin12, labels_of
 
 sys.path.insert(0, os.path.join(os.path.dirname(os.path.abspath(__file__)), "..", "commands"))
 from kinds import KINDS
@@ -28,7 +31,8 @@ LISTS, WORK = sys.argv[1:]
 YEAR = "2026"
 POOL, READING = concurrent.futures.ThreadPoolExecutor(4), concurrent.futures.ThreadPoolExecutor(3)
 BATCH = 25
-FAULTS, COUNTS = [], {"labels": 0, "noriladle": 0, "zbarimg": 0, "ZXingReader": 0, "digits": 0, "of": 0}
+COUNTS = {"labels": 0, "noriladle": 0, "zbarimg": 0, "ZXingReader": 0, "digits": 0, "of": 0}
+FAULTS: list[str] = []
 Image.MAX_IMAGE_PIXELS = None
 
 # Columns, rows, width, height, gaps, page in mm: as the makers have them, and the printer's dots an inch.
@@ -41,19 +45,19 @@ SHEETS = {
 }
 
 
-def run(*words, data=b""):
+def run(*words: str, data: bytes = b"") -> bytes:
     """What a program writes on standard output, whatever it ends with: some readers say so that they found nothing."""
     return subprocess.run(words, input=data, stdout=subprocess.PIPE, stderr=subprocess.DEVNULL).stdout
 
 
-def noriladle(*words):
+def noriladle(*words: str) -> bytes:
     done = subprocess.run([sys.executable, "-m", "noriladle", *words], stdout=subprocess.PIPE, stderr=subprocess.PIPE)
     if done.returncode:
         sys.exit(f"noriladle {' '.join(words)}: status {done.returncode}: {done.stderr.decode()}")
     return done.stdout
 
 
-def cell_of(stock, number):
+def cell_of(stock: str, number: int) -> tuple[int, float, float, float, float]:
     """The left and upper edge and the size of a cell, in mm, and its page."""
     columns, rows, width, height, gap_x, gap_y, page_x, page_y = SHEETS[stock]
     page, cell = divmod(number, columns * rows)
@@ -63,7 +67,7 @@ def cell_of(stock, number):
     return page, left, top, width, height
 
 
-def cuts(pages, stock, count, start, dpi):
+def cuts(pages: list[Image.Image], stock: str, count: int, start: int, dpi: int) -> Iterator[Image.Image]:
     """The labels of pages, each with all of its cell."""
     for number in range(start - 1, start - 1 + count):
         page, left, top, width, height = cell_of(stock, number)
@@ -73,11 +77,11 @@ def cuts(pages, stock, count, start, dpi):
 # ---- readers: what each says of pictures, as labels_of_lists.py has it
 
 # Where noriladle read the last pictures' bars: left, top, right and bottom, in pixels.
-BOXES = []
+BOXES: list[list[float]] = []
 
 
-def by_noriladle(paths):
-    found = {path: [] for path in paths}
+def by_noriladle(paths: Sequence[str]) -> list[list[str]]:
+    found: dict[str, list[str]] = {path: [] for path in paths}
     BOXES.clear()
     done = subprocess.run([sys.executable, "-m", "noriladle", "read", "--json", "--year", YEAR, *paths], stdout=subprocess.PIPE,
                           stderr=subprocess.DEVNULL)
@@ -89,19 +93,21 @@ def by_noriladle(paths):
     return list(found.values())
 
 
-def said(name, text):
+def said(name: str, text: str) -> str:
     if name.upper().replace("-", "").startswith("UPCE") and len(text) == 8:
         text = gtin12(text)
     text = text.replace("\x1d", "")
     return text.zfill(14) if re.fullmatch(r"\d{8,14}", text) else text
 
 
+Reader = Callable[[Sequence[str]], Iterable[List[str]]]
+"""Reads pictures' files: what each symbol of each says."""
 ZBAR = "{http://zbar.sourceforge.net/2008/barcode}"
 
 
-def zbarimg_says(paths):
+def zbarimg_says(paths: Sequence[str]) -> Iterable[list[str]]:
     told = xml.etree.ElementTree.fromstring(run("zbarimg", "--quiet", "--nodbus", "--xml", *paths))
-    found = {path: [] for path in paths}
+    found: dict[str, list[str]] = {path: [] for path in paths}
     for source in told.iter(f"{ZBAR}source"):
         for symbol in source.iter(f"{ZBAR}symbol"):
             data = symbol.find(f"{ZBAR}data")
@@ -111,19 +117,19 @@ def zbarimg_says(paths):
     return found.values()
 
 
-def zxing_says(paths):
+def zxing_says(paths: Sequence[str]) -> Iterable[list[str]]:
     # Debian's ZXingReader 1.4.0 ends by an assertion (Result.cpp:140) if it finds a symbol in the picture and in a smaller one.
     told = run("ZXingReader", "-noscale", *paths).decode("latin-1")
     # It names a file if there are several.
     _, *parts = re.split(r"^File: +(.*)$", told if len(paths) > 1 else f"File: {paths[0]}\n{told}", flags=re.MULTILINE)
-    found = {path: [] for path in paths}
+    found: dict[str, list[str]] = {path: [] for path in paths}
     for path, part in zip(parts[::2], parts[1::2]):
         names, data = (re.findall(rf"^{word}: +(.*?) *$", part, re.MULTILINE) for word in ("Format", "Bytes"))
         found[path] += [said(name, bytes.fromhex(one).decode("latin-1")) for name, one in zip(names, data) if name != "None"]
     return found.values()
 
 
-def in_batches(reader):
+def in_batches(reader: Reader) -> Reader:
     """A reader of many pictures: each call takes some of them, since a start costs more than a picture."""
     return lambda paths: itertools.chain(*POOL.map(reader, (paths[at:at + BATCH] for at in range(0, len(paths), BATCH))))
 
@@ -131,7 +137,7 @@ def in_batches(reader):
 READERS = {"noriladle": by_noriladle, "zbarimg": in_batches(zbarimg_says), "ZXingReader": in_batches(zxing_says)}
 
 
-def read_all(title, pictures, labels):
+def read_all(title: str, pictures: Iterable[Image.Image], labels: list[Label]) -> None:
     """Reads pictures of one label each, and counts those that say exactly the label."""
     paths = []
     for number, picture in enumerate(pictures):
@@ -153,7 +159,7 @@ def read_all(title, pictures, labels):
 
 # ---- pages of each form
 
-def pages_by(*words):
+def pages_by(*words: str) -> list[Image.Image]:
     """The pages that a program draws into the folder for them."""
     shutil.rmtree(PAGES, ignore_errors=True)
     os.mkdir(PAGES)
@@ -164,7 +170,7 @@ def pages_by(*words):
 PDF, PAGES = os.path.join(WORK, "labels.pdf"), os.path.join(WORK, "pages")
 
 
-def files_of(form, *words):
+def files_of(form: str, *words: str) -> list[str]:
     """The files of a form that noriladle writes, in the order of their pages."""
     for old in os.listdir(WORK):
         if old.endswith(f".{form}"):
@@ -175,7 +181,7 @@ def files_of(form, *words):
     return sorted(os.path.join(WORK, name) for name in os.listdir(WORK) if name.endswith(f".{form}"))
 
 
-def try_sheet(name, stock, dpi, start, *options):
+def try_sheet(name: str, stock: str, dpi: int, start: int, *options: str) -> None:
     """Labels of a list on sheets: PDF by two renderers, SVG and PNG."""
     path = os.path.join(LISTS, name)
     labels = labels_of(path)
@@ -199,7 +205,7 @@ def try_sheet(name, stock, dpi, start, *options):
 
 # ---- the languages of label printers, by readers of their own
 
-def zpl_pictures(data):
+def zpl_pictures(data: bytes) -> Iterator[Image.Image]:
     """The labels of ZPL: boxes, and letters that were sent before (ZPL II Programming Guide, ^GB, ~DG, ^XG, and the compression of graphics)."""
     text, letters = data.decode("ascii"), {}
     for name, total, wide, told in re.findall(r"~DG(R:\w+\.GRF),(\d+),(\d+),(.*)\n", text):
@@ -220,8 +226,9 @@ def zpl_pictures(data):
             yield image
 
 
-def zpl_rows(told, wide):
-    rows, row, times = [], "", 0
+def zpl_rows(told: str, wide: int) -> list[str]:
+    row, times = "", 0
+    rows: list[str] = []
     for letter in told:
         if letter in ":,!":
             row = rows[-1] if letter == ":" else row.ljust(wide, "0F"[letter == "!"])
@@ -237,7 +244,7 @@ def zpl_rows(told, wide):
     return rows
 
 
-def epl_pictures(data):
+def epl_pictures(data: bytes) -> Iterator[Image.Image]:
     """The labels of EPL2: GW has dots that are light where a bit is 1."""
     while data:
         head = re.match(rb"\nN\nq(\d+)\nQ(\d+),24\nGW0,0,(\d+),(\d+),", data)
@@ -251,7 +258,7 @@ def epl_pictures(data):
             yield image
 
 
-def tspl_pictures(data):
+def tspl_pictures(data: bytes) -> Iterator[Image.Image]:
     """The labels of TSPL: BITMAP has dots that are light where a bit is 1."""
     while data:
         head = re.match(rb"SIZE [\d.]+ mm,[\d.]+ mm\r\nGAP 3 mm,0 mm\r\nDIRECTION 1\r\nCLS\r\nBITMAP 0,0,(\d+),(\d+),0,", data)
@@ -267,7 +274,7 @@ def tspl_pictures(data):
 PRINTERS = {"zpl": zpl_pictures, "epl": epl_pictures, "tspl": tspl_pictures}
 
 
-def try_roll(name, stock, dpi, forms, *options):
+def try_roll(name: str, stock: str, dpi: int, forms: Sequence[str], *options: str) -> None:
     """Labels of a list on a roll, for label printers."""
     path = os.path.join(LISTS, name)
     for form in forms:
@@ -284,7 +291,7 @@ def try_roll(name, stock, dpi, forms, *options):
 GROUPS = {"ean13": ((1, 6, 3), (7, 6, 50)), "upca": ((1, 5, 10), (6, 5, 50)), "ean8": ((0, 4, 3), (4, 4, 36)), "upce": ((1, 6, 3),)}
 
 
-def digits(title, stock, labels, start, dpi):
+def digits(title: str, stock: str, labels: list[Label], start: int, dpi: int) -> None:
     """How many labels have their digits under their own bars, and their name and price as typed, in the text of the PDF."""
     texts = run("pdftotext", "-bbox", PDF, "-").decode().split("<page ")[1:]
     right = 0
@@ -305,7 +312,7 @@ def digits(title, stock, labels, start, dpi):
     print(f"{title}: by pdftotext {right} of {len(labels)} have their digits under their bars, and name and price", flush=True)
 
 
-def digits_fault(label, words, first, last, bottom):
+def digits_fault(label: Label, words: list[tuple[float, float, float, str]], first: float, last: float, bottom: float) -> str:
     """What is wrong with the digits of a label."""
     module = (last - first) / (KINDS[label.kind].modules if KINDS[label.kind].digits else 100)
     under = sorted((it for it in words if it[1] > bottom - module and it[0] > first - 12 * module and it[2] < last + 12 * module),
@@ -325,7 +332,7 @@ def digits_fault(label, words, first, last, bottom):
     return ""
 
 
-def text_fault(label, words):
+def text_fault(label: Label, words: list[tuple[float, float, float, str]]) -> str:
     """What is missing of a name and a price; a text that was cut ends with three points in one."""
     told = " ".join(it[3] for it in words)
     if "…" in told:
@@ -336,7 +343,7 @@ def text_fault(label, words):
 
 # ---- whole sheets, as a scanner has them
 
-def try_whole_sheets():
+def try_whole_sheets() -> None:
     """`noriladle read` takes the PDF itself: each label of a sheet is read, and nothing else."""
     path = os.path.join(LISTS, "prices.csv")
     files_of("pdf", path, "--stock", "3474")
@@ -348,7 +355,7 @@ def try_whole_sheets():
     print(f"prices.csv on 3474: noriladle read labels.pdf: {len(found)} of {len(wanted)} on {max(it['page'] for it in told)} pages")
 
 
-def try_example():
+def try_example() -> None:
     """The sheet of the examples says what its list says."""
     examples = os.path.join(LISTS, "..", "..", "examples")
     with open(os.path.join(examples, "shelf.csv"), encoding="utf-8") as file:
@@ -359,7 +366,8 @@ def try_example():
     print(f"examples/shelf.pdf: {len(found)} of {len(wanted)}")
 
 
-def main():
+def main() -> None:
+    sheet: Any
     for sheet in [
             ("prices.csv", "L7163", 300, 1, "--look", "bars"), ("kinds.csv", "3424", 600, 1, "--look", "bars"),
             ("prices.csv", "3474", 300, 1), ("prices.csv", "L7160", 300, 1), ("prices.csv", "L7163", 300, 5), ("prices.csv", "L7159", 300, 1),
@@ -367,6 +375,7 @@ def main():
             ("kinds.csv", "L7163", 300, 1), ("kinds.csv", "3424", 300, 2), ("kinds.csv", "2x10:90x27+5+1@letter", 600, 1, "--look", "bars"),
             ("cases.csv", "3424", 300, 1), ("cases.csv", "3483", 300, 1)]:
         try_sheet(*sheet)
+    roll: Any
     for roll in [
             ("prices.csv", "57x32", 203, ("zpl", "epl", "tspl")), ("kinds.csv", "100x50", 203, ("zpl", "tspl"), "--look", "bars"),
             ("prices.csv", "50x25", 300, ("zpl",)), ("prices.csv", "38.1x21.2", 600, ("zpl",), "--look", "bars"),

@@ -4,6 +4,8 @@ One list, saved in many ways, must give the same labels byte for byte. Other spr
 saved/expected.csv says. Archives that are made to harm are refused within 2 seconds of processor time and 200 MB, and
 damaged ones are read rightly or refused. Its last line is the counts.
 """
+from __future__ import annotations
+
 import csv
 import glob
 import io
@@ -14,6 +16,7 @@ import shutil
 import subprocess
 import sys
 import zipfile
+from typing import Callable
 
 from printed import Run, labels_of, run
 
@@ -35,7 +38,7 @@ WANTED = [
 ]
 
 
-def made_from(path, end):
+def made_from(path: str, end: str) -> tuple[bytes | None, Run]:
     """The file that the command makes of a list, and what it said.
 
     A PDF file has its list's name, so each way gets the same one.
@@ -51,7 +54,7 @@ def made_from(path, end):
         return file.read(), done
 
 
-def says_the_list(done):
+def says_the_list(done: Run) -> bool:
     """Whether the labels say what the list says, in its order."""
     if len(done.labels) != len(WANTED):
         return False
@@ -61,9 +64,10 @@ def says_the_list(done):
     )
 
 
-def try_ways():
+def try_ways() -> tuple[int, int]:
     paths = sorted(glob.glob(os.path.join(SAVED, "ways", "*")))
-    first, alike = {}, 0
+    alike = 0
+    first: dict[str, bytes] = {}
     for path in paths:
         is_alike = True
         for end in ("svg", "pdf", "zpl"):
@@ -89,7 +93,7 @@ SHORT = {
 }
 
 
-def what_is_wrong(done, row):
+def what_is_wrong(done: Run, row: dict[str, str]) -> str:
     counts = [int(count) for count in row["labels"].split(" / ")]
     if len(done.labels) not in counts or done.status != (0 if done.labels else 1):
         return f"{row['labels']} labels are wanted, and there are {len(done.labels)}"
@@ -105,7 +109,7 @@ def what_is_wrong(done, row):
     return ""
 
 
-def try_spreadsheets():
+def try_spreadsheets() -> tuple[int, int]:
     right = count = 0
     with open(os.path.join(SAVED, "expected.csv"), encoding="utf-8", newline="") as file:
         rows = list(csv.DictReader(file, delimiter=";"))
@@ -126,7 +130,7 @@ def try_spreadsheets():
 # ---- archives that are damaged, or made to harm
 
 
-def changed(name, part, change):
+def changed(name: str, part: str, change: Callable[[bytes], bytes]) -> bytes:
     """A spreadsheet of saved/ with one of its parts changed, or left out."""
     made = io.BytesIO()
     with zipfile.ZipFile(os.path.join(SAVED, name)) as old, zipfile.ZipFile(made, "w", zipfile.ZIP_DEFLATED) as new:
@@ -149,23 +153,23 @@ LAUGHS = (
 FILE = b'<!DOCTYPE x [<!ENTITY a SYSTEM "file:///etc/hostname">]>'
 
 
-def declared(doctype):
+def declared(doctype: bytes) -> Callable[[bytes], bytes]:
     """Puts a DOCTYPE behind the XML declaration, and one of its entities into a text."""
 
-    def change(data):
+    def change(data: bytes) -> bytes:
         at = data.index(b"?>") + 2
         return data[:at] + doctype + data[at:].replace(b"Oat biscuits", b"&a;" if doctype is FILE else b"&i;")
 
     return change
 
 
-def padded(data):
+def padded(data: bytes) -> bytes:
     """300 MB of blanks in a part, which take 300 kB in the archive."""
     at = data.index(b"?>") + 2
     return data[:at] + b" " * 300_000_000 + data[at:]
 
 
-def many_rows(data):
+def many_rows(data: bytes) -> bytes:
     """An article's line that stands there a million times."""
     first = data.index(b"<table:table-row", data.index(b"Oat biscuits") - 1000)
     at = data.rindex(b"<table:table-row", 0, data.index(b"Oat biscuits"))
@@ -174,20 +178,20 @@ def many_rows(data):
     )
 
 
-def many_columns(data):
+def many_columns(data: bytes) -> bytes:
     at = data.rindex(b"<table:table-cell", 0, data.index(b"Oat biscuits"))
     return data[:at] + data[at:].replace(
         b"<table:table-cell", b'<table:table-cell table:number-columns-repeated="16000"', 1
     )
 
 
-def far_cell(data):
+def far_cell(data: bytes) -> bytes:
     return data.replace(
         b"</sheetData>", b'<row r="1048576"><c r="XFD1048576" t="inlineStr"><is><t>far</t></is></c></row></sheetData>'
     )
 
 
-def far_cells(data):
+def far_cells(data: bytes) -> bytes:
     """Twenty thousand lines whose only cell is in the last column."""
     cell = b'<row r="%d"><c r="XFD%d" t="inlineStr"><is><t>far</t></is></c></row>'
     return data.replace(b"</sheetData>", b"".join(cell % (line, line) for line in range(1_000, 21_000)) + b"</sheetData>")
@@ -212,7 +216,7 @@ HARMFUL = {
 }
 
 
-def within_limits(path):
+def within_limits(path: str) -> tuple[Run, bool, str]:
     """Runs the command in a process of its own: the run, whether it kept its limits, and its seconds and megabytes."""
     words = [
         sys.executable, __file__, "", WORK, "run", path, "-o", os.path.join(WORK, "harm.svg"), "--stock", "2x5:99x57",
@@ -225,7 +229,7 @@ def within_limits(path):
     return Run(done.returncode, said, []), seconds <= SECONDS and megabytes <= MEGABYTES, used
 
 
-def try_harmful():
+def try_harmful() -> tuple[int, int]:
     right = 0
     for name, (source, part, change) in HARMFUL.items():
         path = os.path.join(WORK, name)
@@ -246,7 +250,7 @@ def try_harmful():
     return right, len(HARMFUL)
 
 
-def try_damaged(count):
+def try_damaged(count: int) -> tuple[int, int]:
     """Bytes of an archive are changed, or its end is missing: it is read rightly or refused, and nothing is raised."""
     chance, right = random.Random(4), 0
     sources = [os.path.join(SAVED, "ways", name) for name in ("libreoffice.xlsx", "libreoffice.ods", "openpyxl.xlsx")]
@@ -275,7 +279,7 @@ def try_damaged(count):
     return right, count
 
 
-def main():
+def main() -> None:
     ways, sheets, harmful, damaged = try_ways(), try_spreadsheets(), try_harmful(), try_damaged(300)
     print("\n".join(FAULTS[:60]), file=sys.stderr, end="\n" if FAULTS else "")
     print(
@@ -285,7 +289,7 @@ def main():
     sys.exit(1 if FAULTS else 0)
 
 
-def run_once(words):
+def run_once(words: list[str]) -> None:
     """Makes labels, and reports processor seconds and megabytes as the last line of standard error."""
     done = subprocess.run([sys.executable, "-m", "noriladle", "labels", *words], stdout=subprocess.DEVNULL)
     used = resource.getrusage(resource.RUSAGE_CHILDREN)

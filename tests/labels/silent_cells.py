@@ -4,13 +4,16 @@ Each cell that is not blank must stand on a label, or its column must be named a
 or counted among the lines that are passed over. A cell with none of these is silent. A label with another price than
 its line has, or with a price that is none, is wrong. Prints the counts as its last line.
 """
+from __future__ import annotations
+
 import collections
 import os
 import re
 import sys
+from typing import Any, Iterator
 
-from damaged_lists import damaged, is_gtin
-from printed import cents_in_cell, labels_of
+from damaged_lists import List, Row, damaged, is_gtin
+from printed import Label, Run, cents_in_cell, labels_of
 
 WORK = sys.argv[2]
 COUNT = int(sys.argv[3]) if len(sys.argv) > 3 else 1_000
@@ -21,7 +24,7 @@ FAULTS = []
 class Account:
     """What the command said of a list, as far as cells are concerned."""
 
-    def __init__(self, a_list, done):
+    def __init__(self, a_list: List, done: Run) -> None:
         self.list, self.done = a_list, done
         refusals = [line for line in done.said if line.startswith("LIST:") and "warning:" not in line]
         # A refusal stands at its line, and may name others: "the same number as in line 3".
@@ -35,12 +38,12 @@ class Account:
         for label in done.labels:
             self.labels[label.number.zfill(14)].append(label)
 
-    def number_of(self, row):
+    def number_of(self, row: Row) -> str:
         """The number in a line's column of numbers, in 14 digits; nothing if there is none."""
         at = self.list.place("gtin")
         return row.cells[at].zfill(14) if at < len(row.cells) and is_gtin(row.cells[at]) else ""
 
-    def is_on(self, cell, label):
+    def is_on(self, cell: str, label: Label) -> bool:
         """Whether a cell stands on a label: as its number, as a part of its texts, or as its price."""
         text = re.sub(r"\s+", " ", cell).strip()
         if is_gtin(text):
@@ -48,7 +51,7 @@ class Account:
         cents = cents_in_cell(text, self.list.decimal) if re.fullmatch(r"[\d.,]+", text) else None
         return text in label.text or cents is not None and cents == price_on(label, self.list)
 
-    def is_named(self, at):
+    def is_named(self, at: int) -> bool:
         """Whether this column is named as unused, by its heading or its number."""
         heading = self.list.headings[at] if at < len(self.list.headings) else ""
         return (
@@ -57,7 +60,7 @@ class Account:
             else any(re.search(rf"\bcolumn {at + 1}\b", line) for line in self.done.said)
         )
 
-    def silent(self):
+    def silent(self) -> list[tuple[int, str]]:
         """The cells that are on no label, and of which nothing is said."""
         if self.whole:
             return []
@@ -81,7 +84,7 @@ class Account:
             (row.line, cell) for row, cells in over for _, cell in cells if not (is_counted and row in may_pass)
         ]
 
-    def wrong(self):
+    def wrong(self) -> Iterator[str]:
         """The labels that say another price than their line, or that no line may have."""
         rows = collections.defaultdict(list)
         for row in self.list.rows:
@@ -99,7 +102,7 @@ class Account:
                     yield f"{number} is printed as {label.texts}, and may say {sorted(allowed, key=str)}"
 
 
-def price_on(label, a_list):
+def price_on(label: Label, a_list: List) -> int | None:
     """The cents of the label's one price; None without one, and no cents if there are several."""
     others = {
         re.sub(r"\s+", " ", cell).strip() for row in a_list.rows for cell in row.cells if re.search(r"[^\W\d]", cell)
@@ -108,7 +111,7 @@ def price_on(label, a_list):
     return None if not prices else prices[0] if len(prices) == 1 and prices[0] is not None else -1
 
 
-def account_of(a_list, path):
+def account_of(a_list: List, path: str) -> Account:
     """Runs the command; if it refuses lines, runs it again without them, so that each other line shows."""
     done = labels_of(path, WORK)
     if done.status == 1 and not done.labels:
@@ -120,9 +123,9 @@ def account_of(a_list, path):
     return Account(a_list, done)
 
 
-def main():
+def main() -> None:
     cells = silent = wrong = whole = 0
-    kinds = collections.Counter()
+    kinds: collections.Counter[str] = collections.Counter()
     for number in range(COUNT):
         a_list, path = damaged(SEED, number), os.path.join(WORK, "damaged.csv")
         with open(path, "wb") as file:
@@ -134,6 +137,7 @@ def main():
         name = f"list {number} ({', '.join(a_list.damages) or 'not damaged'})"
         if not a_list.damages and account.done.status != 0:
             FAULTS.append(f"{name} is refused: {account.done.said[:3]}")
+        found: Any
         for kind, found in (("silent", lost), ("wrong", bad)):
             if found:
                 kinds.update(f"{kind} {damage}" for damage in a_list.damages or ["not damaged"])

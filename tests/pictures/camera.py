@@ -11,10 +11,10 @@ from typing import Any, Optional, Tuple
 
 import cv2
 import numpy
+from numpy.random import Generator as Chance
 from PIL import Image
 
 Array = Any
-Chance = numpy.random.Generator
 
 FINE = 2
 """How many steps of light a dot has to each side."""

@@ -5,10 +5,14 @@ the npm package, WORK a folder for the pictures, and KEPT the folder of what was
 pictures that come from a seed, from the seed to look at. With --look or groups it tests no limit. Its last lines are
 the limits, each with what was seen.
 """
+from __future__ import annotations
+
 import concurrent.futures
 import os
 import sys
 import time
+from concurrent.futures import Executor
+from typing import Iterable, Iterator, Sequence
 
 HERE = os.path.dirname(os.path.abspath(__file__))
 sys.path[:0] = [os.path.join(HERE, "..", "page"), os.path.join(HERE, "..", "..", "python")]
@@ -18,7 +22,7 @@ import pictures
 import sets
 from library import Library, line_of, says
 from noriladle import picture
-from other_readers import OTHERS, newest
+from other_readers import OTHERS, Reader, newest
 
 READERS = ("library", *OTHERS)
 SLOWEST = 0.6
@@ -28,16 +32,16 @@ SLOWEST = 0.6
 class Count:
     """How many symbols each reader reads, and in how many pictures it reads something else."""
 
-    def __init__(self):
+    def __init__(self) -> None:
         self.symbols, self.right, self.wrong = 0, dict.fromkeys(READERS, 0), dict.fromkeys(READERS, 0)
 
-    def add(self, other):
+    def add(self, other: Count) -> None:
         self.symbols += other.symbols
         for reader in READERS:
             self.right[reader] += other.right[reader]
             self.wrong[reader] += other.wrong[reader]
 
-    def note(self, reader, wanted, got):
+    def note(self, reader: str, wanted: Sequence[str], got: Sequence[str]) -> None:
         left = list(wanted)
         for read in got:
             if read in left:
@@ -45,7 +49,7 @@ class Count:
         self.right[reader] += len(wanted) - len(left)
         self.wrong[reader] += any(read not in wanted for read in got)
 
-    def cells(self):
+    def cells(self) -> list[str]:
         """What each reader read, and in brackets in how many pictures it read something else."""
         return [f"{self.right[reader]}{f' ({self.wrong[reader]})' if self.wrong[reader] else ''}" for reader in READERS]
 
@@ -53,11 +57,12 @@ class Count:
 class Comparison:
     """The library beside the other readers, with what they read by group and by set of groups."""
 
-    def __init__(self, sources, library, others, pool):
+    def __init__(self, sources: sets.Sources, library: Library, others: dict[str, Reader], pool: Executor) -> None:
         self.sources, self.library, self.others, self.pool = sources, library, others, pool
-        self.by_group, self.by_set = {}, {}
+        self.by_group: dict[str, Count] = {}
+        self.by_set: dict[str, Count] = {}
 
-    def read(self, made):
+    def read(self, made: sets.Made) -> Count:
         """What all readers read of pictures, each given by its symbols and its path."""
         count = Count()
         wanted, paths = [[symbol.says for symbol in symbols] for symbols, _ in made], [path for _, path in made]
@@ -72,7 +77,7 @@ class Comparison:
                 count.note(reader, want, got)
         return count
 
-    def table(self, groups):
+    def table(self, groups: Iterable[sets.Group]) -> None:
         """Prints a row for each group and each set of groups."""
         row = "| {:58} | {:>7} | {:>11} | {:>11} | {:>11} | {:>5} |"
         print(row.format("group: read (pictures with something else read)", "symbols", *READERS, "ms"))
@@ -88,7 +93,7 @@ class Comparison:
         for of, count in self.by_set.items():
             print(row.format(f"all {of}", count.symbols, *count.cells(), ""))
 
-    def without(self):
+    def without(self) -> dict[str, tuple[int, int]]:
         """How many pictures without a symbol there are in each set, and in how many of them the library finds one."""
         none = {}
         for of, make in self.sources.without():
@@ -103,7 +108,7 @@ class Comparison:
         return none
 
 
-def slowest():
+def slowest() -> tuple[float, str]:
     """The longest that a picture made to be slow takes, in seconds of processor time, and its name."""
     longest = (0.0, "")
     for name, grey in hard_pictures.slow():
@@ -113,7 +118,8 @@ def slowest():
     return longest
 
 
-def limits(seen, none, slow):
+def limits(seen: Comparison, none: dict[str, tuple[int, int]],
+           slow: tuple[float, str]) -> Iterator[tuple[str, object, bool]]:
     """Each limit, what was seen, and whether it holds."""
     for of, count in seen.by_set.items():
         right, least = count.right["library"], sets.LEAST[of]
@@ -126,8 +132,8 @@ def limits(seen, none, slow):
     fewer = [name for name, count in seen.by_group.items()
              if name not in hard_pictures.NOT_HELD and count.right["library"] < max(count.right.values())]
     yield "groups in which another reads more, none but light zones", ", ".join(fewer) or 0, not fewer
-    for of, (count, found) in none.items():
-        yield f"{of}, symbols found in {count}, none", found, found == 0
+    for of, (many, found) in none.items():
+        yield f"{of}, symbols found in {many}, none", found, found == 0
     yield f"the slowest of 12 million dots, at most {SLOWEST} s", f"{slow[0]:.2f} ({slow[1]})", slow[0] <= SLOWEST
     rows = [broken.modules_of(symbol) for symbol in seen.sources.symbols]
     found = sum(broken.whole(row) and broken.whole(row[::-1]) for row in rows)
@@ -138,7 +144,7 @@ def limits(seen, none, slow):
     yield f"of {library.asked} pictures Python, C and Node answer alike, of all", "all" if alike else "not all", alike
 
 
-def main():
+def main() -> int:
     program, package, work, kept, *names = sys.argv[1:]
     look = "--look" in names
     names = [name for name in names if name != "--look"]

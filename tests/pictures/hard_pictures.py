@@ -1,24 +1,30 @@
 """Pictures that are hard to read, in groups of one picture for each symbol; pages of many labels; and pictures that take long."""
+from __future__ import annotations
+
 import os
 import random
+from typing import Callable, Iterator
 
 import cv2
 import numpy
-from pictures import INK, PAPER, Bare, Look, picture_of, seen, write
+from pictures import INK, PAPER, Bare, Look, Symbol, picture_of, seen, write
+
+Drawing = Callable[[numpy.ndarray, Look, random.Random], numpy.ndarray]
+"""Makes a picture of a symbol's image."""
 
 
-def light_on_dark(image, look, chance):
+def light_on_dark(image: numpy.ndarray, look: Look, chance: random.Random) -> numpy.ndarray:
     return 255 - picture_of(Bare(image), look, chance)
 
 
-def shaken(dots):
+def shaken(dots: int) -> Drawing:
     """A picture that moved along the row by this many dots."""
-    def made(image, look, chance):
+    def made(image: numpy.ndarray, look: Look, chance: random.Random) -> numpy.ndarray:
         return cv2.blur(picture_of(Bare(image), look, chance), (dots, 1))
     return made
 
 
-def glare(image, look, chance):
+def glare(image: numpy.ndarray, look: Look, chance: random.Random) -> numpy.ndarray:
     """A lamp shines on a part of the label, which is white."""
     picture = picture_of(Bare(image), look, chance).astype(numpy.float32)
     height, width = picture.shape
@@ -28,9 +34,9 @@ def glare(image, look, chance):
     return numpy.clip(picture + cv2.GaussianBlur(spot, (0, 0), height / 20), 0, 255).astype(numpy.uint8)
 
 
-def zones(modules):
+def zones(modules: int) -> Drawing:
     """A symbol between dark blocks, this many modules of light away."""
-    def made(image, look, chance):
+    def made(image: numpy.ndarray, look: Look, chance: random.Random) -> numpy.ndarray:
         dark = numpy.flatnonzero((image < 128).sum(axis=0) > image.shape[0] // 3)
         left, right = dark[0], dark[-1] + 1
         edge = modules * 8
@@ -41,7 +47,7 @@ def zones(modules):
     return made
 
 
-def on_print(image, look, chance):
+def on_print(image: numpy.ndarray, look: Look, chance: random.Random) -> numpy.ndarray:
     """A label among lines of print."""
     height, width = image.shape
     page = numpy.full((height + 900, width + 900), 255, numpy.uint8)
@@ -52,13 +58,13 @@ def on_print(image, look, chance):
     return picture_of(Bare(page), look, chance)
 
 
-def cut(image, look, chance):
+def cut(image: numpy.ndarray, look: Look, chance: random.Random) -> numpy.ndarray:
     """The frame cuts the symbol: the outer half of a light zone is gone, and so is the upper half of the bars."""
     dark = numpy.flatnonzero((image < 128).sum(axis=0) > image.shape[0] // 3)
     return picture_of(Bare(image[image.shape[0] * 2 // 5:, dark[0] - 60:dark[-1] + 61]), look, chance)
 
 
-def plain(image, look, chance):
+def plain(image: numpy.ndarray, look: Look, chance: random.Random) -> numpy.ndarray:
     return picture_of(Bare(image), look, chance)
 
 
@@ -91,7 +97,7 @@ NOT_HELD = ("light zones of 2 modules",)
 """Groups in which another reader may read more: the library needs half of the standard's light zones (docs/PICTURES.md)."""
 
 
-def group(name, symbols, folder):
+def group(name: str, symbols: list[Symbol], folder: str) -> list[tuple[Symbol, str]]:
     """The symbol of each picture of a group, and its path."""
     draw, look = GROUPS[name]
     made = []
@@ -101,7 +107,7 @@ def group(name, symbols, folder):
     return made
 
 
-def sheet(symbols, columns, rows, angle, folder):
+def sheet(symbols: list[Symbol], columns: int, rows: int, angle: float, folder: str) -> tuple[list[Symbol], str]:
     """A page of labels, two dots a module, turned by an angle; the symbols, and its path."""
     small = [cv2.resize(symbol.image, None, fx=0.25, fy=0.125, interpolation=cv2.INTER_AREA) for symbol in symbols]
     wide, high = max(image.shape[1] for image in small) + 20, max(image.shape[0] for image in small) + 20
@@ -117,11 +123,11 @@ def sheet(symbols, columns, rows, angle, folder):
     return shown, write(seen(grey, Look(noise=4), random.Random(f"sheet {angle}")), os.path.join(folder, f"sheet_{angle}"))
 
 
-def slow():
+def slow() -> Iterator[tuple[str, numpy.ndarray]]:
     """Pictures of 4,000 by 3,000 dots that take long, by their names."""
     source, wide, high = numpy.random.RandomState(5), 4000, 3000
 
-    def bars(dots):
+    def bars(dots: int) -> numpy.ndarray:
         row = numpy.concatenate([numpy.full(width, 255 * (i % 2)) for i, width in enumerate(source.choice([1, 1, 2, 3, 4], 4000) * dots)])
         return numpy.tile(row[:wide].astype(numpy.uint8), (high, 1))
 

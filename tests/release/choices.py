@@ -18,6 +18,7 @@ import subprocess
 import sys
 import tempfile
 import time
+from typing import Any, Tuple
 
 ROOT = pathlib.Path(__file__).resolve().parents[2]
 COPIED = ["gs1_hub", "VERSION", "embed", "package/aarch64", *(f"package/{it}" for it in ("file", "files.py", "prove", "prove.mk", "release", "sources"))]
@@ -37,7 +38,7 @@ BACK = "git checkout -- release brings it back"
 LACKS = "and there is no Rattle kit to build it, of which CONTRIBUTING.md says more"
 OTHER = f"gs1_hub: this is the program of the last release; the sources here differ, {LACKS}\n"
 KEPT = ["gs1_hub", "gs1_hub.beside"]
-Ran = "tuple[int, str, str]"
+Ran = Tuple[int, str, str]
 
 
 class Tree:
@@ -50,7 +51,8 @@ class Tree:
             self.write(self.kit / name, f"#!/bin/sh\n{text}")
         for name in COPIED:
             (self.folder / name).parent.mkdir(parents=True, exist_ok=True)
-            (shutil.copytree if (ROOT / name).is_dir() else shutil.copy)(ROOT / name, self.folder / name)
+            copy: Any = shutil.copytree if (ROOT / name).is_dir() else shutil.copy
+            copy(ROOT / name, self.folder / name)
         self.write(self.folder / "crates.txt", "low:\ngs1_hub: low\n")
         self.source = self.folder / "crates" / "low" / "src" / "lib.rt"
         self.write(self.source, "one\n")

@@ -5,14 +5,18 @@ begins with `$ `, in a block between lines of three backquotes or indented by tw
 after it in the block, up to the next command, are its standard output and standard error. bash runs
 each command with an empty standard input.
 """
+from __future__ import annotations
+
 import subprocess
 import sys
 import tempfile
+from typing import Iterator
 
 
-def blocks(page):
+def blocks(page: str) -> Iterator[list[str]]:
     """The blocks of a page, each a list of lines without its indentation."""
-    block, fenced = [], False
+    fenced = False
+    block: list[str] = []
     for line in page.splitlines():
         if line.startswith("```"):
             fenced = not fenced
@@ -28,9 +32,9 @@ def blocks(page):
     yield block
 
 
-def commands(block):
+def commands(block: list[str]) -> list[tuple[str, list[str]]]:
     """The commands of a block, each with the lines that it prints."""
-    found = []
+    found: list[tuple[str, list[str]]] = []
     for line in block:
         if line.startswith("$ "):
             found.append((line[2:], []))
@@ -39,7 +43,7 @@ def commands(block):
     return found
 
 
-def main():
+def main() -> None:
     name = sys.argv[1]
     ran = differ = 0
     for block in blocks(sys.stdin.read()):

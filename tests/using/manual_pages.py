@@ -4,12 +4,15 @@ Usage: manual_pages.py PROGRAM FOLDER; package/pages.py makes them in FOLDER. A 
 its order, and no other options. bash and zsh must offer exactly the commands as the first word, and after it exactly the options of the
 command. bash must not offer an option again that is there already, nor any word in place of a number.
 """
+from __future__ import annotations
+
 import os
 import pty
 import re
 import subprocess
 import sys
 from pathlib import Path
+from typing import Any, Iterator
 
 sys.path.insert(0, str(Path(__file__).resolve().parents[2] / "package"))
 from files import put_files  # noqa: E402
@@ -22,26 +25,26 @@ EMPTY = os.path.join(FOLDER, "empty")
 OPTION = re.compile(r"(?<![\w-])(--?[a-zA-Z][a-zA-Z-]*)")
 
 
-def printed(words, **how):
+def printed(words: list[str], **how: Any) -> str:
     return subprocess.run(words, stdout=subprocess.PIPE, check=True, text=True, **how).stdout
 
 
-def squeezed(text):
+def squeezed(text: str) -> str:
     return " ".join(text.split())
 
 
-def options_of(text):
+def options_of(text: str) -> set[str]:
     """The options that a help lists."""
     block = re.search(r"^Options:\n((?:  .*\n)+)", text, re.MULTILINE)[1]
     return {name for line in block.splitlines() for name in OPTION.findall(line.strip().split("  ")[0])}
 
 
-def commands_of(text):
+def commands_of(text: str) -> set[str]:
     block = re.search(r"^Commands:\n((?:  .*\n)+)", text, re.MULTILINE)[1]
     return {line.split()[0] for line in block.splitlines()}
 
 
-def page_faults(name, text):
+def page_faults(name: str, text: str) -> Iterator[str]:
     """What a page lacks of its help, and the options that it has beyond it."""
     environment = {**os.environ, "MANWIDTH": "1000", "LC_ALL": "C.UTF-8"}
     page = squeezed(printed(["man", "-l", "--nh", "--nj", f"{FOLDER}/{name}.1"], env=environment))
@@ -58,7 +61,7 @@ def page_faults(name, text):
         yield f"{name}.1 has {beyond}, and the help has not"
 
 
-def bash_offers(*words):
+def bash_offers(*words: str) -> set[str]:
     script = f'. "{FOLDER}/{NAME}.bash"; COMP_WORDS=("$@"); COMP_CWORD=$(($# - 1)); _{NAME}; printf "%s\\n" "${{COMPREPLY[@]}}"'
     return set(printed(["bash", "-c", script, "bash", NAME, *words], cwd=EMPTY).split())
 
@@ -74,7 +77,7 @@ autoload -Uz _{name}; compdef _{name} {name}; PS1='rea''dy> '
 """
 
 
-def zsh_offers(*words):
+def zsh_offers(*words: str) -> set[str]:
     """What zsh offers, typed at a terminal."""
     os.makedirs(f"{FOLDER}/zsh", exist_ok=True)
     with open(f"{FOLDER}/{NAME}.zsh", encoding="utf-8") as its, open(f"{FOLDER}/zsh/_{NAME}", "w", encoding="utf-8") as copy:
@@ -96,7 +99,7 @@ def zsh_offers(*words):
     return set(re.findall(r"<<([^<>]*)>>", shown.decode()))
 
 
-def read_until(terminal, end):
+def read_until(terminal: int, end: bytes) -> bytes:
     shown = b""
     while end not in shown:
         try:
@@ -106,7 +109,7 @@ def read_until(terminal, end):
     return shown
 
 
-def main():
+def main() -> None:
     made = files_of(helps_of(PROGRAM), "2026-01-01", "2.0.0")
     put_files(Path(FOLDER), {name: text.encode() for name, text in made.items()})
     texts = {NAME: printed([PROGRAM, "--help"])}
@@ -118,7 +121,7 @@ def main():
     faults += [f"{it} is no page of a command, or is not there" for it in pages ^ {f"{name}.1" for name in texts}]
     asked = 0
 
-    def offers(shell, words, found, wanted):
+    def offers(shell: str, words: list[str], found: set[str], wanted: set[str]) -> None:
         nonlocal asked
         asked += 1
         if found != wanted:

@@ -4,6 +4,8 @@
 It compares these notes with what must be proved: at first, after an edit, after a crate that is not proved, after an
 interrupted run, with another kit, and after a gate. The last line has the count of runs.
 """
+from __future__ import annotations
+
 import os
 import re
 import shutil
@@ -12,6 +14,7 @@ import subprocess
 import sys
 import tempfile
 import time
+from typing import Any
 
 ROOT = sys.argv[1]
 RATTLE = """#!/bin/sh
@@ -33,7 +36,7 @@ done
 """
 
 
-def listed():
+def listed() -> dict[str, list[str]]:
     """For each crate, the crates of the repository that it uses."""
     with open(os.path.join(ROOT, "crates.txt"), encoding="utf-8") as lines:
         read = [re.fullmatch(r"(\w+)(?: staticlib)?:(.*)", line.rstrip("\n")) for line in lines if not line.startswith("#")]
@@ -41,7 +44,7 @@ def listed():
     return {name: [other for other in others if other in crates] for name, others in crates.items()}
 
 
-def below(crates, name):
+def below(crates: dict[str, list[str]], name: str) -> set[str]:
     """All crates below one."""
     return {it for other in crates[name] for it in {other} | below(crates, other)}
 
@@ -49,7 +52,7 @@ def below(crates, name):
 class Tree:
     """A tree of empty crates, and a kit that notes what it must prove."""
 
-    def __init__(self, folder, crates):
+    def __init__(self, folder: str, crates: dict[str, list[str]]) -> None:
         self.folder, self.crates = folder, crates
         self.kit = os.path.join(folder, "kit", "bin")
         os.makedirs(self.kit)
@@ -67,30 +70,30 @@ class Tree:
         for name in ["crates.txt", "VERSION", "gs1_hub", "embed/archive", "embed/exports", "embed/gs1.c", *(f"package/{it}" for it in SCRIPTS)]:
             shutil.copy(os.path.join(ROOT, name), self.at(name))
 
-    def at(self, *parts):
+    def at(self, *parts: str) -> str:
         """A path in the tree."""
         return os.path.join(self.folder, *parts)
 
     @staticmethod
-    def write(path, text):
+    def write(path: str, text: str) -> None:
         """Writes a file that can be run."""
         with open(path, "w", encoding="utf-8") as file:
             file.write(text)
         os.chmod(path, 0o755)
 
-    def start(self, *words, **how):
+    def start(self, *words: str, **how: str) -> subprocess.Popen[str]:
         """Starts a script of the tree, in a group of its own."""
         environment = {"PATH": f"{self.kit}:/usr/bin:/bin", "NOTES": self.folder, **how}
         return subprocess.Popen([self.at(words[0]), *words[1:]], env=environment, stdin=subprocess.DEVNULL,
                                 stdout=subprocess.PIPE, stderr=subprocess.STDOUT, text=True, start_new_session=True)
 
-    def run(self, *words, **how):
+    def run(self, *words: str, **how: str) -> tuple[int, str, list[str]]:
         """The status of a script, what it printed, and the crates that it proved."""
         with self.start(*words, **how) as ran:
             said = ran.stdout.read()
         return ran.returncode, said, self.asked()
 
-    def asked(self):
+    def asked(self) -> list[str]:
         """The crates that the kit had to prove since the last call, in their order."""
         path = self.at("asked")
         if not os.path.exists(path):
@@ -100,7 +103,7 @@ class Tree:
         os.remove(path)
         return names
 
-    def gate(self, names):
+    def gate(self, names: set[str]) -> None:
         """Leaves what .ci/run leaves when rt has proved these crates."""
         sources = subprocess.run([self.at("package", "sources")], stdout=subprocess.PIPE, check=True, text=True).stdout
         shutil.rmtree(self.at("out", "gate"), ignore_errors=True)
@@ -108,7 +111,7 @@ class Tree:
             os.makedirs(self.at("out", "gate", f"{name}.rlib"))
         self.write(self.at("out", "gate", "sources"), sources)
 
-    def edit(self, name):
+    def edit(self, name: str) -> None:
         """Changes a file of a crate, but not its time: package/prove goes by contents."""
         path = self.at("crates", name, "src", "lib.rt")
         times = os.stat(path)
@@ -117,7 +120,7 @@ class Tree:
         os.utime(path, ns=(times.st_atime_ns, times.st_mtime_ns))
 
 
-def main():
+def main() -> bool:
     # A script cannot trap a signal that is ignored when it starts, as SIGINT is in the background of another script.
     signal.signal(signal.SIGINT, signal.default_int_handler)
     crates = listed()
@@ -125,14 +128,14 @@ def main():
     over = {name: {it for it in hub if name in below(crates, it)} for name in hub}
     runs, wrong = 0, 0
 
-    def expect(what, is_so, seen):
+    def expect(what: str, is_so: bool, seen: tuple[list[str] | int | str, ...]) -> None:
         nonlocal runs, wrong
         runs += 1
         if not is_so:
             wrong += 1
             print(f"package/prove, {what}: {seen}", file=sys.stderr)
 
-    def in_order(names):
+    def in_order(names: list[str]) -> bool:
         return all(names.index(other) < names.index(name) for name in names for other in crates[name] if other in names)
 
     with tempfile.TemporaryDirectory() as folder:
@@ -160,11 +163,13 @@ def main():
         expect("the run after it", is_so, (status, said, asked))
         # Crates that only the library uses are proved once.
         alone = below(crates, "gs1_c") - hub
+        kind: Any
         for kind, made in [([], "libgs1_c.a"), (["x86_64"], "x86_64/libgs1_c.a"), (["wasm64"], "wasm64/gs1_c.wasm")]:
             status, said, asked = tree.run("package/prove", "gs1_c", *kind)
             is_so = status == 0 and {*asked} == alone | {"gs1_c"} and in_order(asked) and os.path.exists(tree.at("crates", "gs1_c", "out", made))
             expect(made, is_so, (status, said, asked))
             alone = set()
+        words: Any
         for words, sentence in [(["hub_core"], "neither a program nor a static library"), ([], "the crate is missing")]:
             status, said, asked = tree.run("package/prove", *words)
             expect(f"with {words}", status != 0 and sentence in said and not asked, (status, said, asked))
@@ -199,10 +204,10 @@ def main():
                 time.sleep(0.02)
             tree.edit("hub_core")
             said = ran.stdout.read()
-        first = tree.asked()
+        before = tree.asked()
         status, said, asked = tree.run("package/prove", "gs1_hub")
-        is_so = status == 0 and {*first} == {*asked} == over["hub_core"] | {"hub_core"}
-        expect("a file that changes while it is proved", is_so, (status, first, said, asked))
+        is_so = status == 0 and {*before} == {*asked} == over["hub_core"] | {"hub_core"}
+        expect("a file that changes while it is proved", is_so, (status, before, said, asked))
 
         tree.write(os.path.join(tree.kit, "rt"), "#!/bin/sh\necho kit two\n")
         status, said, asked = tree.run("package/prove", "gs1_hub")

@@ -3,12 +3,15 @@
 Usage: public_items.py ROOT. Items are what a crate's src/lib.rt exports by `pub use`, and each `pub fn` of a type among these, as
 `Type::call`. In items.txt they follow their crate and a colon.
 """
+from __future__ import annotations
+
 import collections
 import glob
 import re
 import sys
+from typing import Counter, Iterator
 
-def passed_on(crate):
+def passed_on(crate: str) -> Iterator[str]:
     """What src/lib.rt exports."""
     with open(f"{crate}/src/lib.rt", encoding="utf-8") as it:
         used = re.findall(r"^pub use ([^;]*);", it.read(), re.MULTILINE)
@@ -17,7 +20,7 @@ def passed_on(crate):
         yield from (name.strip() for name in names if name.strip())
 
 
-def calls(crate):
+def calls(crate: str) -> Iterator[str]:
     """The public calls of each type, as `Type::call`."""
     for file in glob.glob(f"{crate}/src/**/*.rt", recursive=True):
         with open(file, encoding="utf-8") as it:
@@ -34,19 +37,19 @@ def calls(crate):
                 yield f"{owner}::{call[1]}"
 
 
-def items_of(crate):
+def items_of(crate: str) -> set[str]:
     """All public items of a crate."""
     names = set(passed_on(crate))
     return names | {it for it in calls(crate) if it.split("::")[0] in names}
 
 
-def listed(text):
+def listed(text: str) -> Counter[tuple[str, str]]:
     """The items that the list has, each with its crate, and how often."""
     found = re.findall(r"^(\w+): ((?:.*\n)(?:    .*\n)*)", text, re.MULTILINE)
     return collections.Counter((crate, item) for crate, names in found for item in names.split())
 
 
-def main():
+def main() -> None:
     root = sys.argv[1]
     with open(f"{root}/tests/using/items.txt", encoding="utf-8") as it:
         counts = listed(it.read())

@@ -2,6 +2,8 @@
 
   apt-get install --no-install-recommends libreoffice-calc python3-uno python3-openpyxl
 """
+from __future__ import annotations
+
 import datetime
 import hashlib
 import os
@@ -10,6 +12,7 @@ import sys
 import tempfile
 import time
 import zipfile
+from typing import Any, Callable, Sequence
 
 import openpyxl
 import uno
@@ -22,7 +25,9 @@ FILTERS = {"xlsx": "Calc MS Excel 2007 XML", "xls": "MS Excel 97", "ods": "calc8
 DAY = datetime.date(2027, 3, 31)
 HEADINGS = ["EAN", "Name", "Price", "Cost price", "Line 1", "Best before"]
 # A number is stored as a number, with the format beside it; all else is a text.
-ARTICLES = [
+Cell = Any
+"""A value, or a value and its format."""
+ARTICLES: list[list[Cell]] = [
     [(4012345010008, "0"), "Oat biscuits", (2.9, "0.00"), (1.5, "0.00"), "100 g = 1.16", (DAY, "yyyy-mm-dd")],
     [(12345000065, "000000000000"), "Cola 0,5 l", (1.05, "0.00"), (0.4, "0.00"), None, (DAY, "yyyy-mm-dd")],
     ["96385074", "Müsli „Großer Hof“, ungesüßt", (12, "0.00"), (7.25, "0.00"), "new", None],
@@ -31,13 +36,13 @@ ARTICLES = [
     ["8712345000127", "Crème fraîche", "3.49", "1.99", None, (DAY, "yyyy-mm-dd")],
     [(4012345010749, "0"), "Apfelsaft", (1234.5, "0.00"), (800, "0.00"), None, None],
 ]
-SHORT = [
+SHORT: list[list[Cell]] = [
     ["EAN", "Name", "Price"], [(4012345010008, "0"), "Oat biscuits", (2.9, "0.00")],
     [(4012345010374, "0"), "Rye bread", (3.19, "0.00")], [(4012345010749, "0"), "Apple juice", (1.49, "0.00")],
 ]
 
 
-def put(sheet, rows, top=1):
+def put(sheet: Any, rows: Sequence[Sequence[Cell]], top: int = 1) -> None:
     """Puts rows into a sheet, from the row `top` on."""
     for down, cells in enumerate(rows):
         for right, cell in enumerate(cells):
@@ -47,28 +52,28 @@ def put(sheet, rows, top=1):
                 place.number_format = form
 
 
-def book(rows=SHORT, top=1, title="Prices"):
+def book(rows: Sequence[Sequence[Cell]] = SHORT, top: int = 1, title: str = "Prices") -> openpyxl.Workbook:
     made = openpyxl.Workbook()
     made.active.title = title
     put(made.active, rows, top)
     return made
 
 
-def with_price(value, form="0.00"):
+def with_price(value: object, form: str | None = "0.00") -> openpyxl.Workbook:
     """The short list, with another value and format as the price of its second article."""
     rows = [list(row) for row in SHORT]
     rows[2][2] = (value, form) if form else value
     return book(rows)
 
 
-def merged():
+def merged() -> openpyxl.Workbook:
     made = book([["Price list", None, None], *SHORT[:2], ["Bread", None, None], *SHORT[2:]])
     made.active.merge_cells("A1:C1")
     made.active.merge_cells("A4:C4")
     return made
 
 
-def two_sheets(first=SHORT):
+def two_sheets(first: Sequence[Sequence[Cell]] = SHORT) -> openpyxl.Workbook:
     made = book(first)
     put(
         made.create_sheet("Old prices"), [[*row[:2], (9.99, "0.00") if at else "Price"] for at, row in enumerate(SHORT)]
@@ -76,13 +81,13 @@ def two_sheets(first=SHORT):
     return made
 
 
-def notes_first():
+def notes_first() -> openpyxl.Workbook:
     made = book([], title="Notes")
     put(made.create_sheet("Prices"), SHORT)
     return made
 
 
-def hidden(what):
+def hidden(what: str) -> openpyxl.Workbook:
     made = (
         two_sheets()
         if what == "sheet"
@@ -97,32 +102,32 @@ def hidden(what):
     return made
 
 
-def wide():
+def wide() -> openpyxl.Workbook:
     """1,000 columns: the list's three, and 997 of attributes."""
     rows = [[*row, *(f"attribute {at}" if row is SHORT[0] else "x" for at in range(997))] for row in SHORT]
     return book(rows)
 
 
-def with_name(value):
+def with_name(value: str) -> openpyxl.Workbook:
     """The short list, with another name for its second article."""
     rows = [list(row) for row in SHORT]
     rows[2][1] = value
     return book(rows)
 
 
-def with_comment():
+def with_comment() -> openpyxl.Workbook:
     """A comment at a price: its text is no part of the cell."""
     made = book()
     made.active["C3"].comment = Comment("was 3.49 until May", "shop")
     return made
 
 
-def offset():
+def offset() -> openpyxl.Workbook:
     """The list begins in the third column and row."""
     return book([[None, None, *row] for row in SHORT], 3)
 
 
-BOOKS = {
+BOOKS: dict[str, Callable[[], openpyxl.Workbook]] = {
     "merged": merged,
     "two-sheets": two_sheets,
     "notes-first": notes_first,
@@ -149,7 +154,7 @@ BOOKS = {
 }
 
 
-def named(**values):
+def named(**values: Any) -> Any:
     return uno.Any("[]com.sun.star.beans.NamedValue", tuple(NamedValue(name, value) for name, value in values.items()))
 
 
@@ -166,7 +171,7 @@ KEYS = {
 class Office:
     """LibreOffice without a window, reached by a pipe."""
 
-    def __init__(self, profile):
+    def __init__(self, profile: str) -> None:
         pipe = f"noriladle{os.getpid()}"
         self.process = subprocess.Popen(
             [
@@ -186,7 +191,7 @@ class Office:
                 time.sleep(0.5)
         self.desktop = context.ServiceManager.createInstanceWithContext("com.sun.star.frame.Desktop", context)
 
-    def save(self, source, target, **options):
+    def save(self, source: str, target: str, **options: Any) -> None:
         """Saves one file as another, as the end of its name says."""
         document = self.desktop.loadComponentFromURL(
             f"file://{source}", "_blank", 0, (PropertyValue("Hidden", 0, True, 0),)
@@ -198,12 +203,12 @@ class Office:
         )
         document.close(True)
 
-    def close(self):
+    def close(self) -> None:
         self.desktop.terminate()
         self.process.wait(60)
 
 
-def save_ten_ways(office):
+def save_ten_ways(office: Office) -> None:
     """One list: the spreadsheets of both programs, and LibreOffice's CSV in four encodings with two separators."""
     path = os.path.join(HERE, "ways")
     os.makedirs(path, exist_ok=True)
@@ -222,7 +227,7 @@ def save_ten_ways(office):
             marked.write(b"\xef\xbb\xbf" + plain.read())
 
 
-def change(source, target, old, new):
+def change(source: str, target: str, old: bytes, new: bytes) -> None:
     """Copies a spreadsheet, with some bytes of its first sheet changed."""
     with zipfile.ZipFile(source) as before, zipfile.ZipFile(target, "w", zipfile.ZIP_DEFLATED) as after:
         for name in before.namelist():
@@ -230,7 +235,7 @@ def change(source, target, old, new):
             after.writestr(name, data.replace(old, new) if name == "xl/worksheets/sheet1.xml" else data)
 
 
-def main():
+def main() -> None:
     with tempfile.TemporaryDirectory() as work:
         office = Office(f"{work}/profile")
         save_ten_ways(office)
