@@ -24,6 +24,9 @@ mkdir "$work/debian"
 printf 'Source: it\n\nPackage: it\nArchitecture: amd64\n' >"$work/debian/control"
 told=$(cd "$work" && dpkg-shlibdeps -O -L"$work/libgs1-1.control/shlibs" -l"$(echo "$work"/libgs1-1/usr/lib/*)" it 2>/dev/null)
 same "what a program depends on" "libgs1-1 (>= 2.0.0)" "$(tr , '\n' <<<"${told#shlibs:Depends=}" | sed 's/^ *//' | grep libgs1)"
+same "the calls of the header have versions" \
+    "$(sed -nE 's/^[a-z].* \*?(gs1_[a-z_0-9]+)\(.*/\1/p' "$work/libgs1-dev/usr/include/gs1.h" | sort)" \
+    "$(objdump -T "$work"/libgs1-1/usr/lib/*/libgs1.so.1 | sed -nE 's/.* GS1_[0-9.]+ +(gs1_.*)/\1/p' | sort)"
 version=$(dpkg-deb -f "$folder"/libgs1-1_*_amd64.deb Version)
 same "the version of the package has it" yes "$(dpkg --compare-versions "$version" ge 2.0.0 && echo yes)"
 same "the pages of libgs1-dev" "C.md FAULTS.md" "$(cd "$work/libgs1-dev/usr/share/doc/libgs1-dev" && echo ./*.md | sed 's|\./||g')"
