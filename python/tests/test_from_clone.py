@@ -146,7 +146,7 @@ def test_helps_need_no_modules(whole: Path, tmp_path: Path, bare: dict[str, str]
     for name in names:
         assert ran(whole, name, "--help", cache=tmp_path, env=bare).returncode == 0, name
     run = ran(whole, "till", "--redis", "127.0.0.1:1", "north", cache=tmp_path, env=bare, input="")
-    assert (run.returncode, run.stderr) == (2, "noriladle: Redis needs hiredis: apt-get install python3-hiredis\n")
+    assert (run.returncode, run.stderr) == (2, f"noriladle: Redis needs hiredis: {bare['VIRTUAL_ENV']}/bin/python3 -m pip install hiredis\n")
 
 
 def test_without_a_font(monkeypatch: pytest.MonkeyPatch) -> None:
