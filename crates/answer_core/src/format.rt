@@ -249,6 +249,21 @@ impl Answer {
     /// Puts the line of this answer at the front of `out` if it has room for it, and returns its size: its identifier, or `-`,
     /// and its elements in a form; or its error. It takes any bytes as an answer: of more than 192 bytes of text, or 48
     /// elements, it takes the first; a place that is no span of the text is of an empty AI or value.
+    ///
+    /// # Examples
+    ///
+    /// The line that `gs1_hub` writes for the same text:
+    ///
+    /// ```
+    /// use answer_core::Answer;
+    /// let year = element_core::Year::new(2026).ok_or("a year")?;
+    /// let mut answer = Answer::new();
+    /// answer.read_message(b"]d2010950110153000317261231", year);
+    /// let mut line = [0; 292];
+    /// let size = answer.put_line(element_core::Form::HumanReadable, &mut line);
+    /// let text = line.get(..size).ok_or("more than 292 bytes")?;
+    /// assert_eq!(rt; text, b"]d2 (01)09501101530003(17)261231".as_slice());
+    /// ```
     pub fn put_line(&self, form: Form, out: &mut [u8]) -> usize
         ensures { IsPut (format_text form self.now) out.old out.new result }
     {

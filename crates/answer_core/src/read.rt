@@ -25,6 +25,18 @@ impl Answer {
     }
 
     /// What a text of a scanner says, as `read_message` reads it.
+    ///
+    /// # Examples
+    ///
+    /// A text with two elements, the first of which is the GTIN:
+    ///
+    /// ```
+    /// use answer_core::Answer;
+    /// let year = element_core::Year::new(2026).ok_or("a year")?;
+    /// let mut answer = Answer::new();
+    /// answer.read_message(b"]d2010950110153000317261231", year);
+    /// assert_eq!(rt; (answer.fault, answer.count, answer.gtin), (0, 2, 0));
+    /// ```
     pub fn read_message(&mut self, text: &[u8], terms: Year)
         ensures { IsMessageAnswer terms text.now self.new }
     {

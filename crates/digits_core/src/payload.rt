@@ -24,6 +24,16 @@ fn payload_sum(payload: &[u8]) -> u32
 
 /// The check digit, 0 to 9, of a payload of 1 to 17 ASCII digits
 /// (GS1 General Specifications, section 7.9.1).
+///
+/// # Examples
+///
+/// A GTIN lacks its last digit:
+///
+/// ```
+/// use digits_core::check_digit;
+/// let digit = check_digit(b"950110153000");
+/// assert_eq!(rt; digit, 3);
+/// ```
 pub fn check_digit(payload: &[u8]) -> u8
     requires some { 1 ≤ length payload.now }
     requires few { length payload.now ≤ 17 }

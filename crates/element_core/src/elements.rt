@@ -53,6 +53,18 @@ impl Elements {
     ///
     /// One separator directly after a value is passed over, after a value of predefined length too,
     /// and at the end of the text. Of several faults the first from the left is answered.
+    ///
+    /// # Examples
+    ///
+    /// A label has a GTIN, an expiry date and a batch number. Print the line below its bars:
+    ///
+    /// ```
+    /// use element_core::{Elements, Year};
+    /// let year = Year::new(2026).ok_or("a year")?;
+    /// let elements = Elements::parse(b"01095011015300031726123110AB-1", year)?;
+    /// let line = elements.hri();
+    /// assert_eq!(rt; line.as_str(), "(01)09501101530003(17)261231(10)AB-1");
+    /// ```
     pub fn parse(text: &[u8], year: Year) -> Result<Elements, ElementFault>
         // What is read is the list of the text, and nothing else is refused.
         ensures ok { IfOk result (λ es. (es.year ≡ year) × IsElements year text.now es.list) }
@@ -153,6 +165,22 @@ impl Elements {
     }
 
     /// The element at an index below the number of elements.
+    ///
+    /// # Examples
+    ///
+    /// When does an article expire? Look for an element with a date:
+    ///
+    /// ```
+    /// use element_core::{Elements, Year};
+    /// let year = Year::new(2026).ok_or("a year")?;
+    /// let elements = Elements::parse(b"010950110153000317261231", year)?;
+    /// let mut expires = None;
+    /// for i in 0..elements.len() {
+    ///     expires = expires.or(elements.element(i).date);
+    /// }
+    /// let date = expires.ok_or("no date")?;
+    /// assert_eq!(rt; (date.year(), date.month(), date.day()), (2026, 12, 31));
+    /// ```
     pub fn element(&self, i: usize) -> Element
         requires { i < length self.now.list }
         ensures entry { slice_get self.now.list i ≡ Some (entry_in result) }

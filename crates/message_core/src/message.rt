@@ -116,6 +116,17 @@ pub struct Message {
 ///
 /// Blanks, tabs and line ends behind it are ignored, and so is one separator before an element string. The place of an
 /// error is an offset in bytes from there; in a Digital Link it is the index of the element, from 0.
+///
+/// # Examples
+///
+/// A scanner has read a GS1 DataMatrix, whose identifier is `]d2`:
+///
+/// ```
+/// use message_core::{Message, read_message};
+/// let year = element_core::Year::new(2026).ok_or("a year")?;
+/// let Message { said, .. } = read_message(b"]d2010950110153000317261231", year);
+/// assert_eq!(rt; said?.hri().as_str(), "(01)09501101530003(17)261231");
+/// ```
 pub fn read_message(text: &[u8], year: Year) -> Message
     ensures { IsMessage year text.now result.head (heard result.said) }
 {

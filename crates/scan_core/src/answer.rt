@@ -180,6 +180,23 @@ pub fn find_widths(widths: &[u16]) -> Result<Found, RunFault>
 
 /// What the row of these widths in dots says, as `read_row` does, or why they are no row. No memory is
 /// taken.
+///
+/// # Examples
+///
+/// A row of pixels across an EAN-8: 7 light ones, then the widths of its bars and spaces:
+///
+/// ```
+/// use scan_core::{Answer, read_widths};
+/// let widths = [
+///     7, 1, 1, 1, 3, 1, 1, 2, 1, 1, 1, 4, 1, 4, 1, 1, 1, 2, 1, 3, 1, 1, 1, 1, 1, 1, 2, 3, 1, 3,
+///     2, 1, 1, 1, 3, 1, 2, 1, 1, 3, 2, 1, 1, 1, 7,
+/// ];
+/// let year = element_core::Year::new(2026).ok_or("a year")?;
+/// let Answer::Read { elements, .. } = read_widths(&widths, year)? else {
+///     return Err(Fail::from("no symbol"));
+/// };
+/// assert_eq!(rt; elements.hri().as_str(), "(01)00000096385074");
+/// ```
 pub fn read_widths(widths: &[u16], year: Year) -> Result<Answer, RunFault>
     ensures ok { IfOk result (IsAnswer widths.now year) }
     ensures taken { OnOk result (runs_fault widths.now ≡ None) }

@@ -54,6 +54,20 @@ pub fn find_dots(bits: &[u8], width: u16) -> Found
 
 /// What the row of `width` dots of packed bytes says, as `read_row` does of the row that `Runs::cut`
 /// makes of them. A byte has its first dot in its high bit, and 1 is dark. No memory is taken.
+///
+/// # Examples
+///
+/// A row of a bitmap, 113 pixels with an EAN-13:
+///
+/// ```
+/// use scan_core::{Answer, read_dots};
+/// let bits = b"\x00\x15\x8A\x76\x66\x53\x99\x54\xE8\x5C\xB9\x72\x85\x40\x00";
+/// let year = element_core::Year::new(2026).ok_or("a year")?;
+/// let Answer::Read { elements, .. } = read_dots(bits, 113, year) else {
+///     return Err(Fail::from("no symbol"));
+/// };
+/// assert_eq!(rt; elements.hri().as_str(), "(01)09501101530003");
+/// ```
 pub fn read_dots(bits: &[u8], width: u16, year: Year) -> Answer
     requires { width ≤ 8 * length bits.now }
     ensures { (runs : List ℕ) × IsRow runs × (dots_of runs ≡ dots_at bits.now 0 width) × IsAnswer runs year result }

@@ -48,6 +48,22 @@ fn put_image(header: &[u8], line: &[u8], grid: &Grid, out: &mut [u8])
 ///
 /// A label that has no such symbol is `LabelKind`, and one that is wider with its quiet zones than the
 /// cell `LabelWidth`, both with index 0; `out` is then as it was.
+///
+/// # Examples
+///
+/// An EAN-13, one pixel a module, in an image of 113 by 3 pixels; the bars are in its middle row:
+///
+/// ```
+/// use sheet_core::{Grid, Label, label_pbm};
+/// let label = Label::Ean13(digits_core::Gtin::read(b"9501101530003")?);
+/// let grid = Grid::new(1, 113, 3, 1, 1)?;
+/// let mut image = [0; 54];
+/// let size = label_pbm(&label, grid, &mut image)?;
+/// assert_eq!(rt; size, 54);
+/// assert_eq!(rt; &image[..9], b"P4\n113 3\n".as_slice());
+/// let bars = b"\x00\x15\x8A\x76\x66\x53\x99\x54\xE8\x5C\xB9\x72\x85\x40\x00";
+/// assert_eq!(rt; &image[24..39], bars.as_slice());
+/// ```
 pub fn label_pbm(label: &Label, grid: Grid, out: &mut [u8]) -> Result<usize, SheetFault>
     requires columns { grid.columns ≡ 1 }
     requires rows { grid.rows ≡ 1 }
