@@ -38,7 +38,7 @@ const OF_CALLS = {
   picture: ({ number }) => ({ key: isOfSymbol(number) ? "wrongText" : number }),
 };
 
-// Of an error of which nothing is known.
+// The advice for an error without further information.
 const ofAny = ({ number }) => number === 2 ? { key: "noDigit" } : usualRemedy(number, "", undefined, "^");
 
 export const adviceOf = (refusal, asked) => refusal.number === 42 ? { key: 42 } : (OF_CALLS[asked?.call] ?? ofAny)(refusal, asked);

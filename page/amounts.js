@@ -1,5 +1,5 @@
 // @ts-check
-// Reads prices as people write them, and says how they are printed. shop/README.md says the rule. As
+// Reads prices as people write them, and formats them for print. shop/README.md has the rule. As
 // python/noriladle/_amounts.py.
 "use strict";
 

@@ -2,8 +2,8 @@
 // Reads the parts of a ZIP, such as a spreadsheet's own file, by the browser's DecompressionStream (APPNOTE.TXT 4.3).
 "use strict";
 
-// The most bytes of a part when it is unpacked. Parts that are larger than the second, and shrank more than so many
-// times, have no list. The most bytes of the end of a ZIP with its comment.
+// The most bytes of a part when it is unpacked. A part that is larger than LEAST_BOMB and
+// shrank more than MOST_RATIO times has no list. The most bytes of the end of a ZIP with its comment.
 const MOST_PART = 64000000, LEAST_BOMB = 10000000, MOST_RATIO = 200, MOST_END = 65557;
 
 const END_MARK = 0x06054b50, END_MARK_64 = 0x06064b50, ENTRY_MARK = 0x02014b50, FILE_MARK = 0x04034b50;

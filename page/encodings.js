@@ -1,5 +1,5 @@
 // @ts-check
-// Finds how the text of a list is encoded, by evidence. shop/encodings.json has the tables; shop/README.md says the
+// Finds how the text of a list is encoded, by evidence. shop/encodings.json has the tables; shop/README.md has the
 // rule. As python/noriladle/_encodings.py.
 "use strict";
 
@@ -187,7 +187,7 @@ function wordsBeyond(bytes) {
 }
 
 /**
- * The languages of which the first lines have a word of headings, in any of the code pages.
+ * The languages with a word for a heading in the first lines, in any of the code pages.
  * @param {Uint8Array} bytes
  */
 function hintedLanguages(bytes) {

@@ -11,7 +11,7 @@ const SIZES = {
   look: 96, font: 24, article: 152, letters: 16, measure: 12, plan: 48, part: 32, drawing: 24, row: 8192
 };
 
-// The errors of labels by their numbers in gs1.h, and what is said of them in shop/.
+// The errors of labels by their numbers in gs1.h, and their texts in shop/.
 const SAID_OF_LABELS = { 53: "noBars", 54: "noPlace", 55: "noHeight", 56: "manyFurther" };
 
 // An empty label, and how much stays white at its sides, above and below. Lengths are dots.
@@ -23,7 +23,7 @@ function cellOf(stock, dots) {
 // The texts of a label by their numbers in gs1.h: its name, its price, its fields and its further lines.
 const fieldsOf = ({ name, price, fields, lines }) => [name, price, ...fields, lines.join("\n")];
 
-// Lays out the labels of a list in a look, with modules of so many dots if somebody asks for that.
+// Lays out the labels of a list in a look, with modules of this many dots if the caller asks for them.
 class Layout {
   // A module of its own, since its memory is used from call to call.
   static module;
@@ -63,7 +63,7 @@ class Layout {
     this.view = new DataView(this.memory);
   }
 
-  // Writes where so many items stand.
+  // Writes the place and the number of items.
   point(place, at, count) {
     this.view.setBigUint64(place, BigInt(at), true);
     this.view.setBigUint64(place + 8, BigInt(count), true);

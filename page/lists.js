@@ -24,7 +24,7 @@ const MOST_CELL = 1000000, DELIMITERS = [WHOLE_LINES, ";", "\t", ",", "|"];
  * @typedef {{ line: number, from: number, cells: string[] }} ListRecord
  *
  * The records of a list with a delimiter, and the errors of the lines that are none.
- * What stands in these lines, as far as it can be told, is lost.
+ * `lost` has the content of these lines, as far as it is known.
  * @typedef {{ delimiter: string, records: ListRecord[], faults: LineFault[], lost: ListRecord[] }} Sheet
  *
  * A text of shop/, by its name or number, with values: texts, numbers, lengths, other errors, or several ways out.

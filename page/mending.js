@@ -69,7 +69,7 @@ function numberAdvice(text, written) {
 }
 
 /**
- * What a person is told of the numbers that some digits may be.
+ * The sentence about the numbers that some digits may be.
  * @param {Reading[]} readings
  * @returns {Told}
  */

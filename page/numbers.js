@@ -9,7 +9,7 @@
  *   before: string,
  *   after: string }} Format
  *
- * A decimal number: its digits without zeros at their ends, of which this many stand before the point.
+ * A decimal number: its digits without zeros at their ends, and how many of them are before the point.
  * @typedef {{ sign: string, digits: string, point: number }} Decimal
  */
 

@@ -63,8 +63,8 @@ function printedValue(value) {
 // too, and whether its separator is byte 29 alone.
 /** @typedef {{ text: string, reads: (text: string) => boolean, call: string, isString?: boolean }} Asked */
 
-// What is said of another number of digits behind an identifier; the identifiers of Digital Links; what is said of an
-// element that no separator ends.
+// The advice if an identifier is followed by another number of digits; the identifiers of Digital Links; the advice for
+// an element that lacks its separator.
 const LENGTH_KEYS = { "]E0": "lengthEan", "]E4": "lengthEan8", "]I1": "lengthItf" }, LINKS = ["]Q1", "]d1"];
 const ALONE_KEYS = { 5: "noAi", 6: "valueLength", 7: "valueCharacter", 10: "valueLength" };
 
@@ -170,7 +170,7 @@ const remedyOfColumn = (text) =>
   ({ ...remedyOfEither({ text, reads: (it) => !readText(it).refused }, `(01)${gtinOf(core.gtin(text).elements)}`),
     refused: "refused 40 Kind" });
 
-// What is said of the number of an error, with the sign or the separator that it is about.
+// The advice for the number of an error, with the character or the separator that it is about.
 function usualRemedy(number, text, place, separator) {
   if (number === 2) {
     const [sign] = behindPlace(text, place ?? 0);
@@ -181,7 +181,7 @@ function usualRemedy(number, text, place, separator) {
   return [5, 7, 10].includes(number) ? { key: number, values: [separator] } : { key: number };
 }
 
-// What is said of an element that stands by itself. Days of AIs of two digits may be 00.
+// The advice for a single element. Days of AIs of two digits may be 00.
 const remedyAlone = (number, ai) =>
   ({ key: number === 9 && ai.length !== 2 ? "dayAndTime" : ALONE_KEYS[number] ?? number });
 

@@ -904,7 +904,7 @@ class Conflict(NamedTuple):
     other: Optional[Element]
     """The element that it excludes, or the one before it that has another value."""
     text: str
-    """The Application Identifiers of which it needs one, such as ``02,310n``, in which ``n`` stands for any digit; or the code
+    """The Application Identifiers, one of which it needs, such as ``02,310n``, where ``n`` stands for any digit; or the code
     that is in no list."""
 
     def __str__(self) -> str:

@@ -1,5 +1,4 @@
-"""What to do about a text that is refused: of the call that was asked, and of the text itself. Each text that it names in place of
-that one is read by this call."""
+"""What to do about a text that a call refuses, by the call and by the text. The call reads each text that it proposes instead."""
 from __future__ import annotations
 
 import re
@@ -14,11 +13,11 @@ Reads = Callable[[str], bool]
 """Whether the call reads a text."""
 
 _LENGTHS = {"]E0": "lengthEan", "]E4": "lengthEan8", "]I1": "lengthItf"}
-"""What is said of another number of digits behind an identifier."""
+"""The advice if an identifier is followed by another number of digits."""
 _LINKS = ("]Q1", "]d1")
 """The identifiers of symbols that have a Digital Link."""
 _ALONE = {5: "noAi", 6: "valueLength", 7: "valueCharacter", 10: "valueLength"}
-"""What is said of an element that no separator ends."""
+"""The advice for an element that lacks its separator."""
 _EITHER = ("read_text", "read_scan")
 """The calls for which eight digits that begin with 0 are an EAN-8 or a UPC-E."""
 _OF_SYMBOLS = range(4, 12)
@@ -226,12 +225,12 @@ def _of_picture(refusal: Refusal, asked: Asked) -> Advice:
 
 
 def _of_any(refusal: Refusal, asked: Asked) -> Advice:
-    """What to do about an error of which the text is not known."""
+    """What to do about an error whose text is not known."""
     return Advice("noDigit") if refusal.number == 2 else _usual(refusal.number, "", None, "^")
 
 
 def _usual(number: int, text: str, place: Optional[int], separator: str) -> Advice:
-    """What is said of the number, with the sign or the separator that it is about."""
+    """The advice for the number of an error, with the character or the separator that it is about."""
     if number == 2:
         sign = _behind(text, place or 0)[:1]
         return Advice("2", (sign,)) if sign else Advice("noDigit")
@@ -241,7 +240,7 @@ def _usual(number: int, text: str, place: Optional[int], separator: str) -> Advi
 
 
 def _alone(number: int, ai: str) -> Advice:
-    """What is said of an element that stands by itself. Days of Application Identifiers of two digits may be 00."""
+    """The advice for a single element. Days of Application Identifiers of two digits may be 00."""
     return Advice("dayAndTime" if number == 9 and len(ai) != 2 else _ALONE.get(number, str(number)))
 
 

@@ -1,4 +1,4 @@
-"""Reads prices as people write them, and says how they are printed. shop/README.md says the rule."""
+"""Reads prices as people write them, and formats them for print. shop/README.md has the rule."""
 from __future__ import annotations
 
 import re

@@ -55,7 +55,7 @@ class Table:
     unused: Sequence[str] = ()
     """The columns that are not used, by their headings or numbers."""
     lost: Sequence[Record] = ()
-    """What stands in the lines that have an error, as far as it can be told."""
+    """The content of the lines that have an error, as far as it is known."""
     passed: Sequence[int] = ()
     """The lines that have no number, such as categories and totals."""
     source: Sequence[Record] = ()
@@ -233,7 +233,7 @@ class _Look:
         return max(usual, key=lambda count: (usual[count], count)) if self.sheet.delimiter != SPREADSHEET else 0
 
     def _width(self, headings: Headings) -> int:
-        """How many cells a record may have: as many as the heading, or else as most have."""
+        """How many cells a record may have: as many as the heading, or as most records have."""
         if self.sheet.delimiter == WHOLE_LINES:
             return 1
         usual = Counter(len(record.cells) for record in self.sample)
@@ -285,7 +285,7 @@ class _Look:
         return best if not others else sorted({*others, *(best if may_be_both else [])})
 
     def _filled(self, place: int) -> Set[str]:
-        """What stands in a column below the heading, in small letters."""
+        """The cells of a column below the heading, in small letters."""
         cells = (record.cells[place].strip().lower() for record in self.records[1:] if place < len(record.cells))
         return {cell for cell in cells if cell}
 

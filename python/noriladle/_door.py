@@ -15,7 +15,7 @@ from ._log import Log
 HANDSHAKE = 5.0
 """How many seconds a client has to begin TLS."""
 SPARE, SPARE_EACH = 32, 8
-"""When there is no place left, so many connections to the UNIX socket may still be those of scanners; and of one user."""
+"""How many more connections to the UNIX socket scanners may have when no place is left; and how many of one user."""
 AT_ONCE = 4
 """How many clients come in before others have their turn."""
 _PAUSE = 1.0

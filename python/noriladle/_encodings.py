@@ -130,7 +130,7 @@ def _words(data: bytes) -> List[bytes]:
 
 
 def _hinted(data: bytes) -> Set[str]:
-    """The languages of which the first lines have a word of headings, in any of the pages."""
+    """The languages with a word for a heading in the first lines, in any of the code pages."""
     words: Set[str] = set()
     for page in _PAGES:
         words.update("".join(sign if sign.isalpha() else " " for sign in _text(data[:_HEAD], page).lower()).split())
@@ -138,7 +138,7 @@ def _hinted(data: bytes) -> Set[str]:
 
 
 def _letters(words: Sequence[str]) -> Optional[Set[str]]:
-    """The letters of words beyond those of English; None if a sign or a letter stands where none does."""
+    """The letters of words beyond those of English; None if a sign or a letter is where none belongs."""
     found: Set[str] = set()
     for word in words:
         for at, sign in enumerate(word):

@@ -28,7 +28,7 @@ ROWS_AHEAD, LEAST_AHEAD = 64, 4
 PAUSE = 0.005
 """How many seconds lie between two pieces of lines that are too long, of all connections together."""
 LINES = 64
-"""After so many lines of one connection the others have their turn."""
+"""After this many lines of one connection, the others get their turn."""
 _HTTP = re.compile(rb"[A-Z]+ \S+ HTTP/[0-9.]+\r?")
 OWN, ITS_ANSWERS = "]E09501101530003", ("]E0 (01)09501101530003", "]E0 01=09501101530003")
 """The text of the gateway's own scan, and the right answers to it, without and with elements."""
@@ -166,7 +166,7 @@ class Rows:
 
 class Scanner:
     """The scanner of a lane. A line is the number of a scan, a blank and its text; or a number, a tab and why that scan
-    has no text; or the number of the next scan alone. In form 2 the time stands behind the number."""
+    has no text; or only the number of the next scan. In form 2 the time follows the number."""
 
     def __init__(self, gateway: Gateway, connection: Connection, lane: ScanLane, form: int, series: str) -> None:
         if lane.scanner:

@@ -12,7 +12,7 @@ SYNCHRONIZE, KEY = 0, 1
 DROPPED = 3
 RELEASED, PRESSED = 0, 1
 FOREIGN, LOST = "\x1a", "\x18"
-"""These stand in a text for a key that the layout does not have, and for keys that the kernel had no room for."""
+"""A text has these characters instead of a key that the layout lacks, and of keys that the kernel dropped for lack of room."""
 SHIFTS, CONTROLS, ALT, OTHER_ALT, BRACKET = {42, 54}, {29, 97}, 56, 100, 27
 
 _GRAB = 0x40044590  # EVIOCGRAB

@@ -1,4 +1,4 @@
-"""Sends a scanner's texts to a gateway: each once, and each is answered within two seconds or unread."""
+"""Sends a scanner's texts to a gateway, each once. Each gets its answer within two seconds or counts as unread."""
 from __future__ import annotations
 
 import socket

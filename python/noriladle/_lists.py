@@ -55,7 +55,7 @@ class Sheet(NamedTuple):
     records: Sequence[Record]
     faults: Sequence[Fault]
     lost: Sequence[Record] = ()
-    """What stands in the lines that have an error, as far as it can be told."""
+    """The content of the lines that have an error, as far as it is known."""
 
     def without(self, faults: Sequence[Fault]) -> Sheet:
         """The list without the records of these lines, and with these errors for them. The heading is not taken out."""

@@ -1,4 +1,4 @@
-"""Log lines, and other lines that a service writes: a thread writes them, so that a full disk or a reader that stops stops nobody."""
+"""Log lines, and other lines that a service writes: a thread writes them, so that a full disk or a stuck reader holds nobody up."""
 from __future__ import annotations
 
 import atexit

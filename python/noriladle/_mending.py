@@ -1,4 +1,4 @@
-"""What a number was meant to be, if somebody wrote it in another way. shop/README.md says the rule."""
+"""What a number was meant to be, if somebody wrote it in another way. shop/README.md has the rule."""
 from __future__ import annotations
 
 import re
@@ -36,7 +36,7 @@ def is_number(digits: str) -> bool:
 
 
 class Advice(NamedTuple):
-    """What to do about a text that is refused: a sentence of shop/, what stands in it, and each text that may be put in place of this one."""
+    """What to do about a text that is refused: a sentence of shop/, the words in it, and each text that may replace this one."""
 
     key: str
     values: Tuple[object, ...] = ()
@@ -62,7 +62,7 @@ def advice(text: str, written: Written) -> Optional[Advice]:
 
 
 def _told(readings: Sequence[Tuple[str, str]]) -> Optional[Advice]:
-    """What a person is told of the texts that may be meant."""
+    """The sentence about the texts that may be meant."""
     fixes = tuple(text for _, text in readings)
     if not readings:
         return None
@@ -90,7 +90,7 @@ def _readings(digits: str) -> List[Tuple[str, str]]:
 
 
 def _bare(text: str) -> str:
-    """A text with digits of any script as 0 to 9, and without what stands around a number: quotes, signs and words."""
+    """A text with digits of any script as 0 to 9, and without anything around a number: quotes, signs and words."""
     signs = (sign for sign in text if unicodedata.category(sign) != "Cf")
     plain = "".join(str(unicodedata.decimal(sign, sign)) for sign in signs).strip()
     before = ""

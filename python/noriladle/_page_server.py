@@ -1,4 +1,4 @@
-"""Serves the files of the page over HTTP, or over HTTPS with a certificate: GET and HEAD alone, and no other file."""
+"""Serves the files of the page over HTTP, or over HTTPS with a certificate: only GET and HEAD, and no other file."""
 from __future__ import annotations
 
 import hashlib
@@ -146,7 +146,7 @@ class _Handler(BaseHTTPRequestHandler):
             self.wfile.write(file.data)
 
     def do_HEAD(self) -> None:
-        """Sends what is said of a file."""
+        """Sends the headers of a file."""
         self._file()
 
     def _file(self) -> Optional[PageFile]:

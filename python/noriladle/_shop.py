@@ -40,7 +40,7 @@ def machine_language() -> str:
 
 
 def decimal_sign() -> str:
-    """What stands before the decimals of a price, if the list does not show it."""
+    """The sign before the decimals of a price, if the list does not show it."""
     sign: str = file_of(_language)["decimal"]
     return sign
 

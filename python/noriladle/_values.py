@@ -1,4 +1,4 @@
-"""What the values of Application Identifiers say: numbers, units, codes and places."""
+"""The meaning of values of Application Identifiers: numbers, units, codes and places."""
 from __future__ import annotations
 
 from decimal import Decimal

@@ -25,7 +25,7 @@ except ImportError as missing:
 UNREAD = 256
 """A page that leaves more lines than this unread is closed."""
 TOLD = 16
-"""How many pages without a place are told so at a time; more are closed at once."""
+"""How many pages for which there is no place get a message at a time; further ones are closed at once."""
 OPENING = 5.0
 """How many seconds a page has to ask for its lane."""
 _OF_THIS_MACHINE = re.compile(r"https?://(localhost|127\.0\.0\.1|\[::1\])(:\d+)?")

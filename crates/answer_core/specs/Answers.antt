@@ -1,4 +1,4 @@
--- What an answer tells.
+-- What an answer means.
 use Rattle.std.specs.Prelude.{◌≡◌, nat_lt, ℕ, List, [], ◌∷◌, Option, Some, None, length, take, if◌then◌else◌}
 use Rattle.std.specs.List.{AllZip}
 use Rattle.digits_core.specs.declared.refusal.RefusalKind.{RefusalKind}

@@ -29,7 +29,7 @@ conflict kind element other text = record {
   text = pasted (replicate 45 0) 0 (take 44 text);
 }
 
--- the index, counted from here, of the first element of which this is so; 255 if there is none
+-- the index, counted from here, of the first element for which this holds; 255 if there is none
 abbrev pub index_of : (Entry → Bool) → ℕ → List Entry → ℕ
 index_of is i [] = 255
 index_of is i (e ∷ es) = if is e then i else index_of is (i + 1) es
@@ -80,7 +80,7 @@ miscoded i ai value = miscoded_as i (coding_of ai) value
 
 -- ---- all of them
 
--- what its AI asks is told of the first element of an AI
+-- the requirements of an AI are reported for its first element
 abbrev pub breaches : List Entry → ℕ → List ℕ → List Conflict
 breaches es i ai = if stands_in ai (take i es) then [] else filter_map (breach es i ai) (associations_from ai)
 

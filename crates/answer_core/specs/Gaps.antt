@@ -13,7 +13,7 @@ abbrev pub has_hyphens : GapPlace → Bool
 has_hyphens Number = true
 has_hyphens _ = false
 
--- U+0009 to U+000D, U+001C to U+0020, of which U+001D is the separator, and the hyphen U+002D
+-- U+0009 to U+000D, U+001C to U+0020, which include the separator U+001D, and the hyphen U+002D
 abbrev pub is_byte_gap : GapPlace → ℕ → Bool
 is_byte_gap place b =
     is_in_range 9 13 b || ((b == 28) || (is_in_range 30 32 b || ((has_separators place && (b == 29)) || (has_hyphens place && (b == 45)))))
@@ -52,7 +52,7 @@ unfoldable pub last_gap_length : GapPlace → List ℕ → ℕ
 last_gap_length place text =
     last_gap_by place (slice_index_or text (length text - 3) 0) (slice_index_or text (length text - 2) 0) (slice_index_or text (length text - 1) 0)
 
--- what stands behind the gaps at the front, of which there are this many at most
+-- the text behind the gaps at the front, at most this many
 abbrev pub behind_gaps_in : ℕ → GapPlace → List ℕ → List ℕ
 behind_gaps_in zero place text = text
 behind_gaps_in (suc n) place text = if gap_length place text == 0 then text else behind_gaps_in n place (drop (gap_length place text) text)

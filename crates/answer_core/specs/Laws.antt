@@ -18,16 +18,16 @@ use Rattle.answer_core.specs.Rows.{IsDotsAnswer, IsPackedLine, IsWidthsAnswer, I
 use Rattle.answer_core.specs.Written.{Parted, link_text, parted, scan_text}
 use Rattle.answer_core.specs.declared.answer.Answer.{Answer}
 
--- an answer tells one list of elements
+-- an answer stands for one list of elements
 abbrev pub AnswersTellOne : Type 0
 AnswersTellOne = (terms : Terms) (a : Answer) (es fs : List Entry) → TellsElements terms es a → TellsElements terms fs a → es ≡ fs
 
--- the line of an answer has the elements that the answer tells
+-- the line of an answer has the elements of the answer
 abbrev pub LinesTell : Type 0
 LinesTell = (form : Form) (terms : Terms) (a : Answer) (es : List Entry) → TellsElements terms es a
     → format_text form a ≡ word_of a ++ (32 ∷ elements_text form es)
 
--- the line of an answer that tells an error is the error's; a place from 65535 on is not told
+-- the line of an answer with an error is that of the error; it omits a place from 65535 on
 abbrev pub RefusedLines : Type 0
 RefusedLines = (form : Form) (kind : RefusalKind) (place : Option ℕ) (a : Answer) → TellsRefusal kind place a → IfSome place (λ p. p < 65535)
     → format_text form a ≡ refusal_text kind place

@@ -63,7 +63,7 @@ IsGtinAnswer terms digits a = IsGtinBy terms digits (gtin_fault digits) a × IsU
 
 -- ---- lines of answers
 
--- an answer by these terms: it tells elements, or an error
+-- an answer by these terms: it has elements, or an error
 abbrev pub IsAnswerBy : Terms → Answer → Type 0
 IsAnswerBy terms a = ((es : List Entry) × TellsElements terms es a) ⊎ IsError a
 

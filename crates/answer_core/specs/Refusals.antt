@@ -63,6 +63,6 @@ refusals =
     refusal.Spent ∷ refusal.NoThread ∷ refusal.ReadFault ∷ refusal.WriteFault ∷ refusal.Csv ∷ refusal.Kind ∷
     refusal.BadLane ∷ refusal.Words ∷ refusal.NoMemory ∷ refusal.InputSize ∷ []
 
--- the refusal of a number, if one has it
+-- the refusal with this number, if there is one
 abbrev pub refusal_numbered : ℕ → Option RefusalKind
 refusal_numbered number = if number == 0 then None else slice_get refusals (number - 1)

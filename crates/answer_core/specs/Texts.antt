@@ -60,7 +60,7 @@ IsPrintedAnswer opening closing terms text a =
 
 -- ---- numbers
 
--- zeros alone are no number of an article; and eight digits of which the first is 0 may be an EAN-8 or a UPC-E
+-- only zeros are no number of an article; and eight digits that begin with 0 may be an EAN-8 or a UPC-E
 abbrev pub is_no_gtin : List ℕ → Bool
 is_no_gtin digits =
     nat_le 1 (length digits) && nat_le (length digits) 192

@@ -71,7 +71,7 @@ moved_by (Some e) i p = record { path = p.path ++ e ∷ []; query = remove p.que
 abbrev pub moved_at : ℕ → Parted → Parted
 moved_at i p = moved_by (slice_get p.query i) i p
 
--- the first of the query of which this is so
+-- the first of the query for which this holds
 abbrev pub moved : (Entry → Bool) → Parted → Parted
 moved is p = moved_at (position_or_len is p.query) p
 
@@ -135,6 +135,6 @@ abbrev pub checked_by : Option ElementFault → Writing → Writing
 checked_by None w = w
 checked_by (Some fault) w = Err (Elements fault)
 
--- the link of elements that have no fault, with a stem, of which a slash at the end does not count
+-- the link of elements that have no error, with a stem; a slash at the end of the stem does not count
 abbrev pub link_text : Terms → List ℕ → List Entry → Writing
 link_text terms stem es = checked_by (list_fault terms es) (stem_link terms (without_slash stem) es)

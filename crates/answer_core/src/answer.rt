@@ -1,4 +1,4 @@
-//! What a barcode says.
+//! What a barcode means, as a struct.
 ghost use Rattle.std.specs.Prelude.{◌≡◌};
 ghost use Rattle.answer_core.specs.Answers.{IsNamed, TellsElements, TellsNothing, TellsRefusal, place_number};
 ghost use Rattle.answer_core.specs.inner.Answers.{IsNamedAs, IsShort};
@@ -19,8 +19,8 @@ pub(crate) const NO_PLACE: u16 = 65_535;
 /// No GTIN.
 pub(crate) const NO_GTIN: u8 = 255;
 
-/// What a barcode says, or why it says nothing. Of the text `length` bytes are written, and of the elements `count`;
-/// those behind them are not.
+/// What a barcode means, or why it means nothing. Only the first `length` bytes of the text and the first `count`
+/// elements are written, and no byte behind them.
 #[repr(C)]
 #[derive(Clone, Copy)]
 pub struct Answer {
@@ -28,19 +28,19 @@ pub struct Answer {
     pub fault: u16,
     /// The place of the error, or 65,535 if it has none.
     pub place: u16,
-    /// The number of the kind of symbol, as `SymbolKind` has them.
+    /// The number of the kind of symbol, by `SymbolKind`.
     pub symbol: u8,
     /// How many elements there are.
     pub count: u8,
     /// How many bytes the text has.
     pub length: u8,
-    /// The index of the element of AI 01, or 255 if there is none, or two whose values differ.
+    /// The index of the element of AI 01; 255 if there is none, or if there are two with different values.
     pub gtin: u8,
     /// The symbology identifier, three bytes and a 0; or four zeros if there is none.
     pub identifier: [u8; 4],
-    /// The element string of these elements, with a separator only where one must stand.
+    /// The element string of these elements, with separators only where they are required.
     pub text: [u8; 192],
-    /// Where they stand in it.
+    /// Where the elements are in the text.
     pub elements: [Place; MOST_ELEMENTS],
 }
 
@@ -65,7 +65,7 @@ fn place_number(place: Option<usize>) -> u16
 }
 
 impl Answer {
-    /// An answer of nothing.
+    /// An empty answer.
     pub fn new() -> Answer {
         Answer {
             fault: 0,
@@ -80,7 +80,7 @@ impl Answer {
         }
     }
 
-    /// Writes why nothing is said.
+    /// Writes an error.
     pub(crate) fn refuse(&mut self, refusal: Refusal)
         ensures told { TellsRefusal refusal.kind refusal.place self.new }
         ensures kept { IsNamedAs self.old self.new }
@@ -92,7 +92,7 @@ impl Answer {
         self.gtin = NO_GTIN;
     }
 
-    /// Writes why nothing is said, which is written as a line.
+    /// Writes an error that fits on a line.
     pub(crate) fn refuse_said(&mut self, refusal: Refusal)
         requires { IsShort (refusal_text refusal.kind refusal.place) }
         ensures told { TellsLine (refusal_text refusal.kind refusal.place) self.new }
@@ -101,7 +101,7 @@ impl Answer {
         self.refuse(refusal);
     }
 
-    /// Writes that a text or a line is none, and no symbol.
+    /// Writes an error of a text or a line, and no symbol.
     pub(crate) fn tell_nothing(&mut self, kind: RefusalKind)
         ensures { TellsNothing kind self.new }
     {
@@ -109,14 +109,14 @@ impl Answer {
         self.refuse(Refusal { kind, place: None });
     }
 
-    /// Writes that there are no terms: the year is no reference year.
+    /// Writes the error of a year that is no reference year.
     pub fn refuse_terms(&mut self)
         ensures { TellsNothing refusal.Words self.new }
     {
         self.tell_nothing(RefusalKind::Words);
     }
 
-    /// Writes elements, their days under the terms.
+    /// Writes elements, with their days by the terms.
     pub(crate) fn tell(&mut self, elements: &Elements, terms: Year)
         ensures told { TellsElements terms elements.now.list self.new }
         ensures kept { IsNamedAs self.old self.new }

@@ -1,15 +1,15 @@
-//! Which elements the standard requires and forbids beside others (GS1 General Specifications, section 4.13). tables/ais makes the arrays of
-//! tables/ais.tsv.
+//! Which elements the standard requires or forbids beside others (GS1 General Specifications, section 4.13).
+//! tables/ais makes the arrays from tables/ais.tsv.
 ghost use Rattle.std.specs.Prelude.{◌≡◌, map};
 ghost use Rattle.answer_core.specs.Associations.{associations_0_to_2, associations_3, associations_4, associations_7, associations_8, associations_from};
 ghost use Rattle.answer_core.specs.inner.Associations.{association_of};
 
-/// What the elements of some AIs ask of those beside them. Lists are as `01,02,310n`, in which `n` stands for any digit.
+/// What some AIs require of the other elements. Lists are as `01,02,310n`, in which `n` stands for any digit.
 #[derive(Clone, Copy)]
 pub(crate) struct Association {
-    /// The AIs that ask it.
+    /// The AIs with this requirement.
     pub(crate) ais: &'static [u8],
-    /// Whether none of the others may be there; else one of them must.
+    /// Whether none of the others may be there; otherwise one of them must be.
     pub(crate) excludes: bool,
     /// The others.
     pub(crate) others: &'static [u8],
@@ -192,7 +192,7 @@ fn associations_8() -> &'static [Association]
     &ASSOCIATIONS_8
 }
 
-/// What the elements of an AI may ask, by its first digit.
+/// The requirements of an AI, by its first digit.
 pub(crate) fn associations_from(ai: &[u8]) -> &'static [Association]
     ensures { map association_of result.now ≡ associations_from ai.now }
 {

@@ -1,4 +1,4 @@
-//! Bytes into a caller's buffer.
+//! Writes bytes into the caller's buffer.
 ghost use Rattle.std.specs.Prelude.{◌∷◌, ◌++◌};
 ghost use Rattle.digits_core.specs.Buffers.{IsPut};
 ghost use Rattle.digits_core.specs.Refusals.{refusal_text};
@@ -6,7 +6,7 @@ ghost use Rattle.digits_core.specs.Refusals.{refusal_text};
 use digits_core::{Refusal, put_at};
 use itoa::Buffer;
 
-/// Puts bytes at the front of `out` if it has room for them all, and says how many they are.
+/// Puts bytes at the front of `out` if it has room for all of them, and returns how many they are.
 pub fn put(bytes: &[u8], out: &mut [u8]) -> usize
     ensures { IsPut bytes.now out.old out.new result }
 {
@@ -16,7 +16,7 @@ pub fn put(bytes: &[u8], out: &mut [u8]) -> usize
     bytes.len()
 }
 
-/// The same of two words with a space between them.
+/// The same for two words with a space between them.
 pub fn put_words(first: &[u8], second: &[u8], out: &mut [u8]) -> usize
     ensures { IsPut (first.now ++ (32 ∷ second.now)) out.old out.new result }
 {
@@ -30,7 +30,7 @@ pub fn put_words(first: &[u8], second: &[u8], out: &mut [u8]) -> usize
     count
 }
 
-/// The same of two texts, one right behind the other.
+/// The same for two texts without a space.
 pub fn put_both(first: &[u8], second: &[u8], out: &mut [u8]) -> usize
     ensures { IsPut (first.now ++ second.now) out.old out.new result }
 {
@@ -42,7 +42,7 @@ pub fn put_both(first: &[u8], second: &[u8], out: &mut [u8]) -> usize
     count
 }
 
-/// The same of a refusal: its number and name, and its place if it has one.
+/// The same for a refusal: its number and name, and its place if it has one.
 pub fn put_refusal(refusal: Refusal, out: &mut [u8]) -> usize
     ensures { IsPut (refusal_text refusal.kind refusal.place) out.old out.new result }
 {

@@ -6,7 +6,7 @@ ghost use Rattle.answer_core.specs.Codes.{are_four_digits, coded_list, coding_of
 use crate::conflict::ConflictKind;
 use crate::listed::is_listed;
 
-/// Where a value has codes, and of which list (GS1 General Specifications, section 3).
+/// Where a value has codes, and from which list (GS1 General Specifications, section 3).
 #[derive(Clone, Copy, Debug, PartialEq, Eq)]
 pub(crate) enum Coding {
     /// The number of a country, its first three digits.
@@ -28,7 +28,7 @@ pub(crate) enum Coding {
 struct CodedAis {
     /// A list of them, in which `n` stands for any digit.
     ais: &'static [u8],
-    /// What is wrong if a code is in no list.
+    /// The error if a code is in no list.
     kind: ConflictKind,
     coding: Coding,
 }
@@ -82,7 +82,7 @@ fn currencies() -> &'static [u8]
     CURRENCIES
 }
 
-/// What the codes of an AI's values are, if they have some.
+/// The kind of codes in an AI's values, if they have codes.
 pub(crate) fn coding_of(ai: &[u8]) -> Option<(ConflictKind, Coding)>
     ensures { result ≡ coding_of ai.now }
 {
@@ -96,14 +96,14 @@ pub(crate) fn coding_of(ai: &[u8]) -> Option<(ConflictKind, Coding)>
     None
 }
 
-/// The first signs of a value, as many as it has of them.
+/// The first characters of a value, as many as it has.
 pub(crate) fn first(count: usize, value: &[u8]) -> &[u8]
     ensures { result.now ≡ take count value.now }
 {
     &value[..count.min(value.len())]
 }
 
-/// The first of numbers of three digits that is no country's; no sign if each is one.
+/// The first number of three digits that is no country's; empty if there is none.
 fn unknown_country(numbers: &[u8]) -> &[u8]
     ensures { result.now ≡ unknown_country numbers.now }
 {
@@ -135,7 +135,7 @@ fn are_four_digits(signs: &[u8]) -> bool
     }
 }
 
-/// The first code of a value that is in no list; no sign if there is none.
+/// The first code of a value that is in no list; empty if there is none.
 pub(crate) fn unknown_code(coding: Coding, value: &[u8]) -> &[u8]
     ensures { result.now ≡ unknown_code coding value.now }
 {

@@ -1,4 +1,4 @@
-//! Elements in percent codes.
+//! Percent-encodes elements.
 ghost use Rattle.std.specs.Prelude.{◌≡◌, ◌<◌, ◌≤◌, ◌+◌, ◌++◌, ◌∷◌, [], MatchOption, length, map};
 ghost use Rattle.message_core.specs.Coding.{encoded, hex_digit};
 ghost use Rattle.answer_core.specs.Places.{entry_at};
@@ -9,10 +9,10 @@ use crate::format::split_first;
 use crate::place::Place;
 use arrayvec::ArrayVec;
 
-/// The path and the query of a link: 192 bytes, three for each, with two signs for each of 48 elements.
+/// The longest path and query of a link: 192 bytes with three for each, and two delimiters for each of 48 elements.
 pub(crate) type Coded = ArrayVec<u8, 672>;
 
-/// Whether a byte stands for itself: letters, digits and `-._~` (RFC 3986, section 2.3).
+/// Whether a byte needs no code: letters, digits and `-._~` (RFC 3986, section 2.3).
 fn is_unreserved(byte: u8) -> bool
     ensures { result ≡ is_unreserved byte }
 {
@@ -31,7 +31,7 @@ fn hex_digit(number: u8) -> u8
     }
 }
 
-/// Puts a byte at the end of a text, as a code unless it stands for itself.
+/// Puts a byte at the end of a text, encoded if necessary.
 fn push_byte(byte: u8, line: &mut Coded)
     requires { length line.old.items + length (byte_code byte) ≤ 672 }
     ensures { line.new.items ≡ line.old.items ++ byte_code byte }
@@ -45,7 +45,7 @@ fn push_byte(byte: u8, line: &mut Coded)
     line.push(hex_digit(byte % 16));
 }
 
-/// The first byte, and those behind it.
+/// The first byte, and the bytes behind it.
 fn first_byte(bytes: &[u8]) -> Option<(u8, &[u8])>
     ensures { MatchOption result (bytes.now ≡ []) (λ p. bytes.now ≡ p.0 ∷ p.1.now) }
 {
@@ -55,7 +55,7 @@ fn first_byte(bytes: &[u8]) -> Option<(u8, &[u8])>
     }
 }
 
-/// Puts bytes in percent codes at the end of a text.
+/// Puts percent-encoded bytes at the end of a text.
 fn push_coded(bytes: &[u8], line: &mut Coded)
     requires { length line.old.items + length (encoded is_unreserved bytes.now) ≤ 672 }
     ensures { line.new.items ≡ line.old.items ++ encoded is_unreserved bytes.now }
@@ -67,7 +67,7 @@ fn push_coded(bytes: &[u8], line: &mut Coded)
     }
 }
 
-/// The signs of elements: before the first, before each other, and between AI and value.
+/// The delimiters of elements: before the first, before each other, and between AI and value.
 #[derive(Clone, Copy)]
 pub(crate) struct LinkSigns {
     pub(crate) first: u8,
@@ -89,7 +89,7 @@ pub(crate) fn push_elements(signs: LinkSigns, text: &[u8], places: &[Place], lin
     }
 }
 
-/// Puts an element behind a sign at the end of a text.
+/// Puts an element behind its delimiter at the end of a text.
 fn push_element(sign: u8, ai: &[u8], between: u8, value: &[u8], line: &mut Coded)
     requires { length line.old.items + length ((sign ∷ ai.now) ++ (between ∷ encoded is_unreserved value.now)) ≤ 672 }
     ensures { line.new.items ≡ line.old.items ++ ((sign ∷ ai.now) ++ (between ∷ encoded is_unreserved value.now)) }

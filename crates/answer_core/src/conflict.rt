@@ -1,4 +1,4 @@
-//! Elements that contradict each other, or the standard's lists of codes.
+//! Elements that contradict each other, or have codes outside the standard's lists.
 ghost use Rattle.std.specs.Prelude.{◌≡◌, ◌≤◌, ◌+◌, ◌++◌, [], IfSome, MatchOption, drop, filter_map, length, map, min, take};
 ghost use Rattle.std.specs.List.{cons_option};
 ghost use Rattle.answer_core.specs.Conflicts.{breach, breaches, conflict, conflict_number, conflicts, conflicts_of, differing, index_of, is_other, is_other_value, miscoded, stands_in};
@@ -19,17 +19,17 @@ use digits_core::put_at;
 /// What is wrong with an element. Its number, from 1 in this order, is part of the layout of a conflict.
 #[derive(Clone, Copy, Debug, PartialEq, Eq)]
 pub enum ConflictKind {
-    /// None of the elements is there of which it needs one.
+    /// It needs one of several elements, and none of them is there.
     Needs,
-    /// An element is there that it excludes.
+    /// It excludes an element that is there.
     Excludes,
-    /// An element before it has the same AI and another value.
+    /// An earlier element has the same AI and another value.
     Differs,
-    /// A code is that of no country (ISO 3166).
+    /// A code is not that of a country (ISO 3166).
     Country,
-    /// A code is that of no currency (ISO 4217).
+    /// A code is not that of a currency (ISO 4217).
     Currency,
-    /// Its first four signs begin no GS1 Company Prefix.
+    /// Its first four characters are not the beginning of a GS1 Company Prefix.
     CompanyPrefix,
 }
 
@@ -46,14 +46,14 @@ impl ConflictKind {
 #[repr(C)]
 #[derive(Clone, Copy)]
 pub struct Conflict {
-    /// The number of its kind, as `ConflictKind` has them.
+    /// The number of its kind, by `ConflictKind`.
     pub kind: u8,
     /// The index of the element.
     pub element: u8,
     /// The index of the element that it excludes, or that has another value; 255 if there is none.
     pub other: u8,
-    /// The AIs of which it needs one, as `01,02,310n`, in which `n` stands for any digit; or the code that is in no list.
-    /// Zeros stand behind it.
+    /// The AIs of which it needs one, as `01,02,310n`, in which `n` stands for any digit; or the code that is in no
+    /// list. Zeros follow.
     pub text: [u8; 45],
 }
 
@@ -61,7 +61,7 @@ pub struct Conflict {
 const _: () = prove!(size_of::<Conflict>() == 48);
 
 impl Conflict {
-    /// A conflict of the element of this index.
+    /// A conflict of the element with this index.
     fn new(kind: ConflictKind, element: u8, other: u8, text: &[u8]) -> Conflict
         ensures { result ≡ conflict kind element other text.now }
     {
@@ -76,7 +76,7 @@ impl Conflict {
     }
 }
 
-/// Whether the element at a place has another AI, which is listed.
+/// Whether the element at a place has another AI, and this AI is in the list.
 fn is_other(ai: &[u8], list: &[u8], text: &[u8], place: &Place) -> bool
     ensures { result ≡ is_other ai.now list.now (entry_at text.now place.now) }
 {
@@ -84,7 +84,7 @@ fn is_other(ai: &[u8], list: &[u8], text: &[u8], place: &Place) -> bool
     other != ai && is_listed(other, list)
 }
 
-/// The index of the first element of another AI, which is listed; 255 if there is none.
+/// The index of the first element with another AI that is in the list; 255 if there is none.
 fn other_listed(ai: &[u8], list: &[u8], text: &[u8], places: &[Place]) -> u8
     requires { length places.now ≤ 48 }
     ensures { result ≡ index_of (is_other ai.now list.now) 0 (map (entry_at text.now) places.now) }
@@ -125,7 +125,7 @@ fn other_value(ai: &[u8], value: &[u8], text: &[u8], places: &[Place]) -> u8
     255
 }
 
-/// Whether an AI is that of one of some elements.
+/// Whether one of the elements has this AI.
 fn stands_in(ai: &[u8], text: &[u8], places: &[Place]) -> bool
     ensures { result ≡ stands_in ai.now (map (entry_at text.now) places.now) }
 {
@@ -139,7 +139,7 @@ fn stands_in(ai: &[u8], text: &[u8], places: &[Place]) -> bool
     false
 }
 
-/// What an association of AIs asks of an element, and is not so.
+/// The requirement of an association of AIs that an element does not meet, if any.
 fn breach(
     association: &Association,
     ai: &[u8],
@@ -162,7 +162,7 @@ fn breach(
     }
 }
 
-/// The conflict of an element with one before it.
+/// The conflict of an element with an earlier one.
 fn differing(ai: &[u8], value: &[u8], index: u8, text: &[u8], before: &[Place]) -> Option<Conflict>
     requires { length before.now ≤ 48 }
     ensures { result ≡ differing (map (entry_at text.now) before.now) index ai.now value.now }
@@ -199,14 +199,14 @@ fn add(found: Option<Conflict>, at: usize, out: &mut [Conflict]) -> usize
     }
 }
 
-/// What the first of some associations asks and is not so, and the others.
+/// The requirement of the first association that is not met, and the other associations.
 #[derive(Clone, Copy)]
 struct FirstBreach<'a> {
     found: Option<Conflict>,
     rest: &'a [Association],
 }
 
-/// The same of some associations, if there is one.
+/// The same for some associations, if there is one.
 fn first_breach<'a>(
     list: &'a [Association],
     ai: &[u8],
@@ -228,7 +228,7 @@ fn first_breach<'a>(
     }
 }
 
-/// Adds what associations ask of an element, and is not so.
+/// Adds the requirements of associations that an element does not meet.
 fn add_breaches(
     list: &[Association],
     ai: &[u8],
@@ -251,7 +251,7 @@ fn add_breaches(
     end
 }
 
-/// Adds what the first element of an AI asks of the others, and is not so.
+/// Adds the requirements of the first element of an AI that the others do not meet.
 fn add_asked(
     ai: &[u8],
     index: u8,
@@ -271,7 +271,7 @@ fn add_asked(
     add_breaches(associations_from(ai), ai, index, text, places, at, out)
 }
 
-/// Adds the conflicts of the element of an index.
+/// Adds the conflicts of the element with this index.
 fn add_conflicts(
     ai: &[u8],
     value: &[u8],
@@ -309,8 +309,8 @@ fn add_all(text: &[u8], places: &[Place], out: &mut [Conflict]) -> usize
 }
 
 impl Answer {
-    /// Writes the conflicts of the elements at the front of `out`, as many as it has room for, and returns how many it wrote. It
-    /// takes any bytes as an answer, as `put_line` does.
+    /// Writes the conflicts of the elements to the front of `out`, as many as there is room for, and returns how many
+    /// it wrote. It accepts any bytes as an answer, as `put_line` does.
     pub fn conflicts(&self, out: &mut [Conflict]) -> usize
         ensures count { result ≡ min (length (conflicts (entries_in self.now))) (length out.old) }
         ensures front { out.new ≡ take (length out.old) (conflicts (entries_in self.now)) ++ drop (length (conflicts (entries_in self.now))) out.old }

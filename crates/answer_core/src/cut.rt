@@ -1,4 +1,4 @@
-//! Texts that are cut at a byte.
+//! Splits texts at a byte.
 ghost use Rattle.std.specs.Prelude.{◌≡◌, ◌==◌, ◌≤◌, ◌+◌, ◌∷◌, [], IfSome, MatchOption, drop, length};
 ghost use Rattle.std.specs.List.{position_or_len, slice_split};
 
@@ -15,7 +15,7 @@ fn index_of(byte: u8, bytes: &[u8]) -> usize
     bytes.len()
 }
 
-/// What stands before the first such byte and what stands behind it, if there is one.
+/// The text before the first such byte and the text behind it, if there is one.
 pub(crate) fn cut(byte: u8, bytes: &[u8]) -> Option<(&[u8], &[u8])>
     ensures parts { MatchOption result (slice_split (λ b. b == byte) bytes.now ≡ bytes.now ∷ [])
         (λ r. slice_split (λ b. b == byte) bytes.now ≡ r.0.now ∷ slice_split (λ b. b == byte) r.1.now) }

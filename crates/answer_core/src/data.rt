@@ -1,4 +1,4 @@
-//! Lines of answers, read back.
+//! Reads lines of answers back.
 ghost use Rattle.std.specs.Prelude.{◌≡◌, ◌≤◌, IfSome, true};
 ghost use Rattle.digits_core.specs.declared.refusal.RefusalKind.TheVariants as refusal;
 ghost use Rattle.element_core.specs.Pairs.{entry_of};
@@ -15,7 +15,7 @@ use crate::symbol::{SymbolKind, as_four, identified_symbol};
 use digits_core::RefusalKind;
 use element_core::{Elements, Form, Pair, Year};
 
-/// The most bytes of a line that an answer has which a call fills.
+/// The most bytes of a line, for an answer that one of the calls filled.
 const MOST_LINE: usize = 292;
 
 /// The number of these digits, if it is below 65,535.
@@ -34,7 +34,7 @@ fn number_of(digits: &[u8]) -> Option<u16> {
     }
 }
 
-/// The number and the place of the error that a line reports behind `refused `: a number, a name and, if it has one, a place.
+/// The number and the place of the error in a line, behind `refused `: a number, a name and, if it has one, a place.
 fn error_of(words: &[u8]) -> Option<(u16, u16)> {
     let (number, name) = cut(b' ', words)?;
     let place = match cut(b' ', name) {
@@ -44,7 +44,7 @@ fn error_of(words: &[u8]) -> Option<(u16, u16)> {
     Some((number_of(number)?, place))
 }
 
-/// The pair of a field: what stands before its first `=`, and what stands behind it.
+/// The pair of a field: the text before its first `=`, and the text behind it.
 fn pair_of(field: &[u8]) -> Option<Pair>
     ensures { IfSome result (λ p. fits_entry (entry_of p) ≡ true) }
 {
@@ -72,7 +72,7 @@ fn pairs_of(fields: &[u8]) -> Option<Pairs> {
 }
 
 impl Answer {
-    /// Writes that a line is none of an answer.
+    /// Writes that a line is not that of an answer.
     fn refuse_line(&mut self)
         ensures { TellsNothing refusal.Kind self.new }
     {
@@ -92,7 +92,7 @@ impl Answer {
         self.gtin = NO_GTIN;
     }
 
-    /// Writes what a line seems to say: its error, or its identifier and its elements.
+    /// Writes what a line seems to mean: its error, or its identifier and its elements.
     fn read_parts(&mut self, line: &[u8], terms: Year)
         ensures { IsAnswerBy terms self.new }
     {
@@ -118,7 +118,7 @@ impl Answer {
         }
     }
 
-    /// Whether this is the line of this answer, with the elements as data.
+    /// Whether this is the line of the answer, with the elements as data.
     fn has_data(&self, line: &[u8]) -> bool
         ensures { result ≡ true → format_text form.Pairs self.now ≡ line.now }
     {
@@ -127,8 +127,8 @@ impl Answer {
         count <= MOST_LINE && &out[..count] == line
     }
 
-    /// The answer whose line this is, with the elements as data (`gs1_format`, and `live --elements` behind its lane and number):
-    /// its elements, or its error. Any other text is error 40 (`Kind`).
+    /// Reads an answer back from its line, with the elements as data (`gs1_format`, and `live --elements` behind its
+    /// lane and number). Any other text is error 40 (`Kind`).
     pub fn read_data(&mut self, line: &[u8], terms: Year)
         ensures { IsDataAnswer terms line.now self.new }
     {

@@ -63,7 +63,7 @@ const REFUSALS: [RefusalKind; 44] = [
     RefusalKind::InputSize,
 ];
 
-/// The refusal of a number, if one has it.
+/// The refusal with this number, if there is one.
 fn refusal_numbered(number: u16) -> Option<RefusalKind>
     ensures { result ≡ refusal_numbered number }
 {
@@ -75,7 +75,7 @@ fn refusal_numbered(number: u16) -> Option<RefusalKind>
     }
 }
 
-/// The signs of a form: before the first element, before each other, and behind an AI.
+/// The delimiters of a form: before the first element, before each other, and behind an AI.
 #[derive(Clone, Copy)]
 struct Signs {
     first: &'static [u8],
@@ -185,7 +185,7 @@ fn put_element(
     put_at(value, mark, out)
 }
 
-/// How many bytes stand before the first 0.
+/// How many bytes are before the first 0.
 fn before_zero(bytes: &[u8]) -> usize
     ensures { result ≡ length (before_zero bytes.now) }
 {
@@ -213,7 +213,7 @@ fn word_of(identifier: &[u8]) -> &[u8]
     }
 }
 
-/// Puts an error's words into `out`, and its place if it has one.
+/// Puts the words of an error into `out`, and its place if it has one.
 pub(crate) fn put_fault(fault: u16, place: u16, out: &mut [u8]) -> usize
     ensures { IsPut (placed_words (fault_words (refusal_numbered fault)) place) out.old out.new result }
 {
@@ -228,7 +228,7 @@ pub(crate) fn put_fault(fault: u16, place: u16, out: &mut [u8]) -> usize
     put_words(words, digits.format(place).as_bytes(), out)
 }
 
-/// Puts a word into `out`, and behind a space the elements at these places in a form.
+/// Puts a word, a space and the elements at these places into `out`, in a form.
 fn put_said(word: &[u8], form: Form, text: &[u8], places: &[Place], out: &mut [u8]) -> usize
     requires word { length word.now ≤ 4 }
     requires text { length text.now ≤ 192 }
@@ -246,9 +246,10 @@ fn put_said(word: &[u8], form: Form, text: &[u8], places: &[Place], out: &mut [u
 }
 
 impl Answer {
-    /// Puts the line of this answer at the front of `out` if it has room for it, and returns its size: its identifier, or `-`,
-    /// and its elements in a form; or its error. It takes any bytes as an answer: of more than 192 bytes of text, or 48
-    /// elements, it takes the first; a place that is no span of the text is of an empty AI or value.
+    /// Puts the line of this answer at the front of `out` if there is room for it, and returns its size. The line has
+    /// the identifier, or `-`, and the elements in a form; or the error. It accepts any bytes as an answer. It uses
+    /// the first 192 bytes of the text and the first 48 elements. A place that is no span of the text counts as an
+    /// empty AI or value.
     ///
     /// # Examples
     ///
@@ -270,7 +271,7 @@ impl Answer {
         self.put_worded(word_of(&self.identifier), form, out)
     }
 
-    /// The same with this word in place of the identifier.
+    /// The same with this word instead of the identifier.
     pub fn put_worded(&self, word: &[u8], form: Form, out: &mut [u8]) -> usize
         requires { length word.now ≤ 4 }
         ensures { IsPut (worded_text word.now form self.now) out.old out.new result }

@@ -1,4 +1,4 @@
-//! Blanks and hyphens, which people put into texts for the eye. Texts are UTF-8.
+//! Blanks and hyphens that people put into texts for readability. Texts are UTF-8.
 ghost use Rattle.std.specs.Prelude.{◌≡◌, ◌++◌, ◌<◌, ◌≤◌, [], List, drop, false, length, slice_index_or, suc, true, ℕ, IfNone, IfSome};
 ghost use Rattle.std.specs.List.{cons_option, list_all};
 ghost use Rattle.element_core.specs.Elements.{is_digit};
@@ -6,7 +6,7 @@ ghost use Rattle.answer_core.specs.Gaps.{before_gaps, behind_gaps, gap_length, g
 
 use element_core::Text;
 
-/// Where blanks and hyphens are passed over.
+/// Where blanks and hyphens are ignored.
 #[derive(Clone, Copy, Debug, PartialEq, Eq)]
 pub enum GapPlace {
     /// At the ends of a text: white space.
@@ -98,14 +98,14 @@ fn last_gap_length(place: GapPlace, text: &[u8]) -> usize
     gap_of(place, third, (second, third), (first, second, third))
 }
 
-/// What follows after this many bytes.
+/// The text after this many bytes.
 fn without_first(many: usize, text: &[u8]) -> &[u8]
     ensures { result.now ≡ drop many text.now }
 {
     text.split_at(text.len().min(many)).1
 }
 
-/// What stands behind the gaps at the front.
+/// The text behind the gaps at the front.
 fn behind_gaps(place: GapPlace, text: &[u8]) -> &[u8]
     ensures { result.now ≡ behind_gaps place text.now }
 {
@@ -120,7 +120,7 @@ fn behind_gaps(place: GapPlace, text: &[u8]) -> &[u8]
     rest
 }
 
-/// What stands before the gaps at the end.
+/// The text before the gaps at the end.
 fn before_gaps(place: GapPlace, text: &[u8]) -> &[u8]
     ensures { result.now ≡ before_gaps place text.now }
 {
@@ -142,7 +142,7 @@ pub(crate) fn trimmed(place: GapPlace, text: &[u8]) -> &[u8]
     before_gaps(place, behind_gaps(place, text))
 }
 
-/// The byte at the front, if no gap stands there, and what stands behind it or behind the gap.
+/// The byte at the front, if it begins no gap, and the text behind it or behind the gap.
 fn first_sign(place: GapPlace, text: &[u8]) -> (Option<u8>, &[u8])
     ensures { (n : ℕ) → kept_in (suc n) place text.now ≡ cons_option result.0 (kept_in n place result.1.now) }
 {
@@ -190,7 +190,7 @@ pub(crate) fn without_gaps(place: GapPlace, text: &[u8]) -> Option<Text>
     Some(left)
 }
 
-/// Whether there is no byte but a digit.
+/// Whether all bytes are digits.
 fn is_digit_if_any(byte: Option<u8>) -> bool
     ensures { result ≡ list_all is_digit (cons_option byte []) }
 {
@@ -200,7 +200,7 @@ fn is_digit_if_any(byte: Option<u8>) -> bool
     }
 }
 
-/// Whether a text has digits alone, and gaps.
+/// Whether a text has only digits and gaps.
 pub(crate) fn are_digits(place: GapPlace, text: &[u8]) -> bool
     ensures { result ≡ list_all is_digit (without_gaps place text.now) }
 {

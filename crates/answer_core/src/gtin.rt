@@ -1,11 +1,11 @@
-//! The GTIN of elements that stand in a text.
+//! The GTIN among the elements of a text.
 ghost use Rattle.std.specs.Prelude.{◌≡◌, ◌≤◌, codes, length, map};
 ghost use Rattle.std.specs.Str.{bytes_eq};
 ghost use Rattle.answer_core.specs.Places.{entry_at, gtin_index, have_value, is_gtin, span};
 
 use crate::place::Place;
 
-/// No GTIN, or two that differ.
+/// No GTIN, or two different ones.
 const NONE: u8 = 255;
 
 /// The bytes of a text from an index up to another, or none if there is no such span.
@@ -51,7 +51,7 @@ fn have_value(text: &[u8], value: &[u8], places: &[Place]) -> bool
     true
 }
 
-/// The index of the first element of AI 01, or 255 if there is none, or another with another value.
+/// The index of the first element of AI 01; 255 if there is none, or if there is another with a different value.
 pub(crate) fn gtin_index(text: &[u8], places: &[Place]) -> u8
     requires { length places.now ≤ 48 }
     ensures { result ≡ gtin_index (map (entry_at text.now) places.now) }

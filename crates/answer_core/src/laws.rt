@@ -1,21 +1,21 @@
-//! Laws of the definitions: each function does nothing, and its contract is the law.
+//! Laws about the definitions. Each is the contract of a function that does nothing.
 ghost use Rattle.answer_core.specs.Laws.{AnswersTellOne, LinesTell, LinkReads, MessageLines, RefusedLines, RowLines, ScanReads, StringLines};
 ghost use Rattle.answer_core.specs.Texts.{OnePrintedLine, PrintedRead};
 
 use element_core::faultless_pairs;
 use message_core::{codes_are_read, key_part_is};
 
-/// An answer tells one list of elements.
+/// An answer stands for one list of elements.
 pub fn answers_tell_one()
     ensures { AnswersTellOne }
 {}
 
-/// The line of an answer has the elements that the answer tells.
+/// The line of an answer has the elements of the answer.
 pub fn lines_tell()
     ensures { LinesTell }
 {}
 
-/// The line of an answer that tells an error is the error's.
+/// The line of an answer with an error is that of the error.
 pub fn refused_lines()
     ensures { RefusedLines }
 {}
@@ -30,14 +30,14 @@ pub fn string_lines()
     ensures { StringLines }
 {}
 
-/// The text that a scanner sends of elements is read as these elements behind its identifier.
+/// The text that a scanner sends for elements reads back as these elements, behind its identifier.
 pub fn scan_reads()
     ensures { ScanReads }
 {
     faultless_pairs();
 }
 
-/// The link of elements is read as the same elements, each as often.
+/// The link of elements reads back as the same elements, each as often.
 pub fn link_reads()
     ensures { LinkReads }
 {
@@ -50,7 +50,8 @@ pub fn row_lines()
     ensures { RowLines }
 {}
 
-/// What is printed of elements is read as these elements, unless a value has an AI of the table in parentheses.
+/// The human-readable text of elements reads back as these elements, unless a value has an AI of the table in
+/// parentheses.
 pub fn printed_is_read()
     ensures read { PrintedRead }
     ensures one { OnePrintedLine }

@@ -1,4 +1,4 @@
-//! What barcodes say, as values of one layout, which programs in C, Python and JavaScript share (`gs1.h`).
+//! What a barcode means, as a struct with a fixed layout that programs in C, Python and JavaScript share (`gs1.h`).
 #![tactic(auto)]
 
 mod answer;

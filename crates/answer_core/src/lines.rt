@@ -1,4 +1,4 @@
-//! Answers to the lines of a text.
+//! Answers the lines of a text.
 ghost use Rattle.std.specs.Prelude.{◌≡◌, ◌<◌, ◌-◌, ◌∷◌, [], IfSome, MatchOption, drop, length};
 ghost use Rattle.std.specs.Str.Lines.{lines, strip_carriage_return};
 ghost use Rattle.answer_core.specs.Lines.{AreLinesAnswered, IsLineAnswer};
@@ -7,21 +7,21 @@ use crate::answer::Answer;
 use crate::cut::cut;
 use element_core::Year;
 
-/// What the lines of a text are.
+/// What each line of a text is.
 #[derive(Clone, Copy, Debug, PartialEq, Eq)]
 pub enum LineKind {
-    /// Texts of a scanner.
+    /// A text of a scanner.
     Message,
-    /// The digits of GTINs.
+    /// The digits of a GTIN.
     Gtin,
 }
 
-/// The first lines of a text, which are answered.
+/// The first lines of a text, those that got an answer.
 #[derive(Clone, Copy, Debug, PartialEq, Eq)]
 pub struct Answered {
     /// How many they are.
     pub count: usize,
-    /// How many bytes they have, with their ends.
+    /// How many bytes they have, including line ends.
     pub used: usize,
 }
 
@@ -37,8 +37,8 @@ fn without_return(line: &[u8]) -> &[u8]
     }
 }
 
-/// The first line of a text and what stands behind its end, if there is a line. A line ends with a line feed, which a carriage
-/// return may stand before; the last one may end with the text.
+/// The first line of a text and the text behind it, if there is a line. A line ends with a line feed, with or without
+/// a carriage return before it; the last line may end with the text.
 fn first_line(text: &[u8]) -> Option<(&[u8], &[u8])>
     ensures lines { MatchOption result (lines text.now ≡ []) (λ r. lines text.now ≡ r.0.now ∷ lines r.1.now) }
     ensures shorter { IfSome result (λ r. length r.1.now < length text.now) }
@@ -52,7 +52,7 @@ fn first_line(text: &[u8]) -> Option<(&[u8], &[u8])>
 }
 
 impl Answer {
-    /// What a line says; without terms, that the year is no reference year.
+    /// Reads a line. Without terms, the answer is that the year is no reference year.
     fn read_line(&mut self, kind: LineKind, line: &[u8], terms: &Option<Year>)
         ensures { IsLineAnswer kind terms.now line.now self.new }
     {
@@ -66,8 +66,8 @@ impl Answer {
     }
 }
 
-/// Answers the lines of a text one by one, from the first, as many as there is room for. A line ends with a line feed, which a
-/// carriage return may stand before; the last one may end with the text.
+/// Answers the lines of a text one by one, from the first, as many as there is room for. A line ends with a line
+/// feed, with or without a carriage return before it; the last line may end with the text.
 pub fn read_lines(
     kind: LineKind,
     text: &[u8],

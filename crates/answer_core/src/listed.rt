@@ -2,7 +2,7 @@
 ghost use Rattle.std.specs.Prelude.{◌≡◌};
 ghost use Rattle.answer_core.specs.Listed.{begins_like, is_behind_comma, is_listed};
 
-/// Whether a word is the first of a list, in which `n` stands for any sign.
+/// Whether a word is the first of a list, in which `n` stands for any character.
 fn begins_like(word: &[u8], list: &[u8]) -> bool
     ensures { result ≡ begins_like word.now list.now }
 {
@@ -21,7 +21,7 @@ fn begins_like(word: &[u8], list: &[u8]) -> bool
     }
 }
 
-/// Whether a word is one of a list, as `01,02,310n`, in which `n` stands for any sign.
+/// Whether a word is in a list such as `01,02,310n`, in which `n` stands for any character.
 pub(crate) fn is_listed(word: &[u8], list: &[u8]) -> bool
     ensures { result ≡ is_listed word.now list.now }
 {

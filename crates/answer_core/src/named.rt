@@ -1,4 +1,4 @@
-//! The days and the time that an element names, in numbers.
+//! The days and the time in an element, as numbers.
 ghost use Rattle.std.specs.Prelude.{◌≡◌, ◌≤◌, is_some, ℕ, Option};
 ghost use Rattle.element_core.specs.Days.{IsDay};
 ghost use Rattle.answer_core.specs.Named.{bit, day_numbers, time_numbers};

@@ -1,18 +1,18 @@
-//! Where the number of a value stands.
+//! Where the number in a value is.
 ghost use Rattle.std.specs.Prelude.{◌≡◌, ◌≤◌, IfSome, option_map};
 ghost use Rattle.answer_core.specs.Numbers.{number_at};
 ghost use Rattle.answer_core.specs.inner.Numbers.{first_and_decimals};
 
-/// Where a number stands in a value.
+/// Where a number is in a value.
 #[derive(Clone, Copy)]
 pub(crate) struct NumberPlace {
-    /// How many digits of a currency stand before it: none or three.
+    /// How many digits of a currency come before it: none or three.
     pub first: u8,
     /// How many of its digits are decimals.
     pub decimals: u8,
 }
 
-/// The place of the number in the values of an AI, if they have one: counts, measures, amounts and percentages
+/// The place of the number in the values of an AI, if they have one. Counts, measures, amounts and percentages do
 /// (GS1 General Specifications, sections 3.6 and 3.7).
 pub(crate) fn number_at(ai: &[u8]) -> Option<NumberPlace>
     ensures value { option_map first_and_decimals result ≡ number_at ai.now }

@@ -13,9 +13,9 @@ use message_core::{is_key, place_by};
 /// The places of the elements of a link.
 #[derive(Drop)]
 pub(crate) struct LinkOrder {
-    /// Of its path: a key, and then its qualifiers.
+    /// Those in its path: a key, and then its qualifiers.
     pub(crate) path: ArrayVec<Place, MOST_ELEMENTS>,
-    /// Of its query.
+    /// Those in its query.
     pub(crate) query: ArrayVec<Place, MOST_ELEMENTS>,
 }
 
@@ -62,7 +62,7 @@ fn index_of_qualifier(key: &[u8], at: u8, text: &[u8], places: &[Place]) -> usiz
 }
 
 impl LinkOrder {
-    /// Moves the element of an index from the query to the end of the path, if there is one.
+    /// Moves the element with this index from the query to the end of the path, if there is one.
     fn move_at(&mut self, index: usize, text: &[u8])
         requires { length self.old.path.items + length self.old.query.items ≤ 48 }
         ensures moved { parted_of text.now self.new ≡ moved_at index (parted_of text.now self.old) }
@@ -106,7 +106,7 @@ impl LinkOrder {
     }
 }
 
-/// The places of elements in the order of a link; none without a key.
+/// The places of elements in the order of a link. It is empty if no element is a key.
 pub(crate) fn link_order(text: &[u8], places: &[Place]) -> Option<LinkOrder>
     requires { length places.now ≤ 48 }
     ensures order { option_map (parted_of text.now) result ≡ parted (map (entry_at text.now) places.now) }

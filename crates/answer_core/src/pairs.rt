@@ -1,4 +1,4 @@
-//! Pairs that are collected from a text.
+//! Collects pairs from a text.
 ghost use Rattle.std.specs.Prelude.{◌≡◌, ◌==◌, ◌∷◌, [], ◌++◌, ◌<◌, ◌≤◌, length, false, true, IfNone, IfSome, IsTrue};
 ghost use Rattle.element_core.specs.Pairs.{entries_of, entry_of};
 ghost use Rattle.message_core.specs.Links.{fits_all, fits_entry};

@@ -1,4 +1,4 @@
-//! Where elements stand in a text, and what they name.
+//! Where elements are in a text, and their days, times and numbers.
 ghost use Rattle.std.specs.Prelude.{◌≡◌, ◌≤◌, ◌+◌, length, option_map, take, IfSome, ℕ, Option};
 ghost use Rattle.std.specs.List.{AllZip};
 ghost use Rattle.element_core.specs.Days.{IsDay};
@@ -17,7 +17,7 @@ pub const MOST_ELEMENTS: usize = 48;
 /// No number.
 const NONE: u8 = 255;
 
-/// Where an element stands in the text of its answer, and the days and the time that it names.
+/// Where an element is in the text of its answer, and the days and the time that it names.
 #[repr(C)]
 #[derive(Clone, Copy, Default)]
 pub struct Place {
@@ -27,16 +27,16 @@ pub struct Place {
     pub value: u8,
     /// The index behind its value.
     pub end: u8,
-    /// What it names: 1, a day; 2, a time; 4, the last day of a period; or the sum of some of them.
+    /// What it names: 1, a day; 2, a time; 4, the last day of a period; or a sum of these.
     pub named: u8,
     pub day: Day,
     /// The last day of a period (AI 7007).
     pub until: Day,
     /// Hours, minutes and seconds.
     pub time: [u8; 3],
-    /// The index of its number's first digit, behind a currency; 255 if it is none.
+    /// The index of its number's first digit, behind a currency; 255 if it has no number.
     pub number: u8,
-    /// How many digits of the number are decimals; 255 if it is none.
+    /// How many digits of the number are decimals; 255 if it has no number.
     pub decimals: u8,
     /// 0.
     pub reserved: u8,
@@ -64,7 +64,7 @@ impl Place {
     }
 }
 
-/// The index of the number of a value that begins here, and its decimals.
+/// The index of the number in a value that begins here, and its decimals.
 fn number_in(place: Option<NumberPlace>, value: usize) -> (u8, u8)
     requires few { value ≤ 192 }
     requires short { IfSome place (λ p. p.first ≤ 3) }
@@ -103,7 +103,7 @@ fn place_of(at: usize, seen: &Seen) -> Place
     }
 }
 
-/// Writes the places of the elements that stand in a text, and says how many.
+/// Writes the places of the elements of a text, and returns how many they are.
 pub(crate) fn put_places(text: &[u8], year: Year, places: &mut [Place; MOST_ELEMENTS]) -> u8
     requires short { length text.now ≤ 192 }
     requires few { length (shown_elements text.now) ≤ 48 }

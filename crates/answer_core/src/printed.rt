@@ -1,4 +1,4 @@
-//! Element strings as they are printed: each AI in parentheses or brackets, before its value.
+//! Reads element strings as they are printed: each AI in parentheses or brackets, before its value.
 ghost use Rattle.std.specs.Prelude.{◌≡◌, ◌==◌, ◌+◌, ◌<◌, ◌≤◌, ◌∷◌, [], drop, length, not, option_map, false, true, IfNone, IfSome};
 ghost use Rattle.std.specs.List.{list_all};
 ghost use Rattle.element_core.specs.Pairs.{entries_of, entry_of};
@@ -13,15 +13,15 @@ use element_core::{Pair, Text, Year, first_element};
 /// How AIs are marked in a printed text.
 #[derive(Clone, Copy, Debug, PartialEq, Eq)]
 pub struct Marks {
-    /// The sign before an AI.
+    /// The character before an AI.
     pub opening: u8,
-    /// The sign behind it.
+    /// The character behind it.
     pub closing: u8,
-    /// Whether AIs of the table alone are taken, or any two to four digits.
+    /// Whether only AIs of the table count, or any two to four digits.
     pub known: bool,
 }
 
-/// The digits before the closing sign, if nothing else stands there, and what stands behind it.
+/// The digits before the closing character, if nothing else is there, and the text behind it.
 fn closed(closing: u8, text: &[u8]) -> Option<(&[u8], &[u8])>
     ensures digits { option_map (λ p. p.0.now) result ≡ closed closing text.now }
     ensures behind { IfSome result (λ p. p.1.now ≡ drop (length p.0.now + 1) text.now) }
@@ -47,7 +47,7 @@ fn is_known_ai(digits: &[u8], terms: Year) -> bool
     }
 }
 
-/// Whether digits are taken for an AI.
+/// Whether digits count as an AI.
 fn is_taken_ai(known: bool, digits: &[u8], terms: Year) -> bool
     ensures { result ≡ is_taken_ai known digits.now }
 {
@@ -58,7 +58,7 @@ fn is_taken_ai(known: bool, digits: &[u8], terms: Year) -> bool
     }
 }
 
-/// The AI between the signs at the front of a text, and what stands behind them.
+/// The AI at the front of a text, between its two characters, and the text behind them.
 fn mark_at(marks: Marks, text: &[u8], terms: Year) -> Option<(&[u8], &[u8])>
     ensures ai { option_map (λ p. p.0.now) result ≡ mark_at marks text.now }
     ensures behind { IfSome result (λ p. p.1.now ≡ drop (length p.0.now + 1) (drop 1 text.now)) }
@@ -77,14 +77,14 @@ fn mark_at(marks: Marks, text: &[u8], terms: Year) -> Option<(&[u8], &[u8])>
     }
 }
 
-/// Whether an AI stands between the signs at the front of a text.
+/// Whether an AI between its two characters is at the front of a text.
 pub(crate) fn begins_marked(marks: Marks, text: &[u8], terms: Year) -> bool
     ensures { result ≡ begins_marked marks text.now }
 {
     mark_at(marks, text, terms).is_some()
 }
 
-/// What stands before the first AI between signs.
+/// The text before the first AI that is between its two characters.
 fn before_mark(marks: Marks, text: &[u8], terms: Year) -> &[u8]
     ensures { result.now ≡ before_mark marks text.now }
 {
@@ -96,7 +96,8 @@ fn before_mark(marks: Marks, text: &[u8], terms: Year) -> &[u8]
     text
 }
 
-/// A value without the gaps around it, and one of digits alone without those within it; if it has at most 192 bytes.
+/// A value without the gaps around it; if it has only digits, also without those within it. Only if it has at most
+/// 192 bytes.
 fn printed_value(text: &[u8]) -> Option<Text>
     ensures some { IfSome result (λ t. t.items ≡ printed_value text.now) }
     ensures few { IfSome result (λ t. length t.items ≤ 192) }
@@ -109,7 +110,7 @@ fn printed_value(text: &[u8]) -> Option<Text>
     }
 }
 
-/// The pair of an AI and what stands up to the next, if neither has more than 192 bytes.
+/// The pair of an AI and the text up to the next one, if neither has more than 192 bytes.
 fn printed_pair(ai: &[u8], value: &[u8]) -> Option<Pair>
     ensures some { IfSome result (λ p. entry_of p ≡ printed_entry ai.now value.now) }
     ensures fits { IfSome result (λ p. fits_entry (entry_of p) ≡ true) }
@@ -121,14 +122,14 @@ fn printed_pair(ai: &[u8], value: &[u8]) -> Option<Pair>
     })
 }
 
-/// Puts an AI and what stands up to the next at the end, if they fit.
+/// Puts an AI and the text up to the next one at the end, if they fit.
 fn put_printed(pairs: &mut Pairs, ai: &[u8], value: &[u8]) -> bool
     ensures { Gathers result pairs.old.list pairs.new.list (printed_entry ai.now value.now ∷ []) }
 {
     put_pair(pairs, printed_pair(ai, value))
 }
 
-/// Puts the elements of a text in the place of what there was, if they fit.
+/// Replaces the elements by those of a text, if they fit.
 pub(crate) fn put_all_printed(marks: Marks, text: &[u8], terms: Year, pairs: &mut Pairs) -> bool
     ensures put { result ≡ true → pairs.new.list ≡ printed marks text.now }
     ensures full { result ≡ false → fits (printed marks text.now) ≡ false }
@@ -146,7 +147,7 @@ pub(crate) fn put_all_printed(marks: Marks, text: &[u8], terms: Year, pairs: &mu
     true
 }
 
-/// Whether no value is empty or has one of the signs.
+/// Whether no value is empty or has one of the characters around AIs.
 pub(crate) fn are_plain(marks: Marks, pairs: &[Pair]) -> bool
     ensures { result ≡ list_all (has_plain_value marks) (entries_of pairs.now) }
 {
@@ -165,7 +166,7 @@ fn has_no(sign: u8, text: &[u8]) -> bool
     text.iter().all(|byte| *byte != sign)
 }
 
-/// Whether a value is not empty and has none of the signs.
+/// Whether a value is not empty and has none of the characters around AIs.
 fn is_plain(marks: Marks, value: &[u8]) -> bool
     ensures { result ≡ is_plain_value marks value.now }
 {
@@ -180,7 +181,7 @@ fn pair_length(pair: &Pair) -> usize
     pair.ai.len() + pair.value.len() + 1
 }
 
-/// Where the element of an index begins in the text of all of them with a separator between each two.
+/// Where the element with this index begins in the text of all elements with a separator between each two.
 pub(crate) fn start_of(pairs: &[Pair], i: usize) -> usize
     requires { length pairs.now ≤ 48 }
     ensures { result ≡ start_of (entries_of pairs.now) i }

@@ -1,4 +1,4 @@
-//! Answers to texts.
+//! Answers texts.
 ghost use Rattle.std.specs.Prelude.{◌≡◌, Err};
 ghost use Rattle.message_core.specs.Faults.{heard, message_fault_text};
 ghost use Rattle.message_core.specs.declared.fault.MessageFault.{MessageFault};
@@ -12,7 +12,7 @@ use element_core::{Elements, Year};
 use message_core::{Message, MessageFault, read_message};
 
 impl Answer {
-    /// Writes what a message says.
+    /// Writes what a message means.
     fn tell_said(&mut self, said: &Result<Elements, MessageFault>, terms: Year)
         requires { (fault : MessageFault) → heard said.now ≡ Err fault → IsShort (message_fault_text fault) }
         ensures told { TellsOutcome terms (heard said.now) self.new }
@@ -24,7 +24,7 @@ impl Answer {
         }
     }
 
-    /// What a text of a scanner says, as `read_message` reads it.
+    /// Reads a text of a scanner, as `read_message` of message_core does.
     ///
     /// # Examples
     ///
@@ -48,7 +48,7 @@ impl Answer {
         self.tell_said(&said, terms);
     }
 
-    /// What an element string says, in which byte 29 is the separator (GS1 General Specifications, section 7.8).
+    /// Reads an element string, in which byte 29 is the separator (GS1 General Specifications, section 7.8).
     pub fn read_elements(&mut self, text: &[u8], terms: Year)
         ensures { IsStringAnswer terms text.now self.new }
     {
@@ -59,7 +59,7 @@ impl Answer {
         }
     }
 
-    /// The GTIN of 8, 12, 13 or 14 digits (GS1 General Specifications, section 7.9), as the element of AI 01.
+    /// Reads the GTIN of 8, 12, 13 or 14 digits (GS1 General Specifications, section 7.9), as the element of AI 01.
     pub fn read_gtin(&mut self, digits: &[u8], terms: Year)
         ensures { IsGtinAnswer terms digits.now self.new }
     {

@@ -1,4 +1,4 @@
-//! Answers to rows.
+//! Answers rows.
 ghost use Rattle.std.specs.Prelude.{◌≡◌, ◌≤◌, ◌*◌, IfErr, None, Some, IfOk, length};
 ghost use Rattle.scan_core.specs.Faults.{row_fault_text};
 ghost use Rattle.scan_core.specs.declared.answer.Answer.TheVariants.{Refused};
@@ -14,7 +14,7 @@ use scan_core::{Answer as RowAnswer, RunFault, find_dots, find_widths};
 /// The most dots of a row.
 const MOST_DOTS: u32 = 65_535;
 
-/// How many dots a row has of this many packed dots, or why they are no row.
+/// How many dots a row of this many packed dots has, or why it is none.
 pub fn dots_in(bits: &[u8], count: u32) -> Result<u16, RunFault>
     ensures ok { IfOk result (λ dots. (packed_fault (length bits.now) count ≡ None) × (dots ≡ count) × (count ≤ 8 * length bits.now)) }
     ensures err { IfErr result (λ fault. packed_fault (length bits.now) count ≡ Some fault) }
@@ -37,7 +37,7 @@ impl Answer {
         self.refuse_said(fault.refusal());
     }
 
-    /// Writes what a row says.
+    /// Writes the answer to a row.
     fn tell_row(&mut self, said: &RowAnswer, terms: Year)
         requires { (fault : RowFault) → said.now ≡ Refused fault → IsShort (row_fault_text fault) }
         ensures { TellsRowAnswer terms said.now self.new }
@@ -55,7 +55,8 @@ impl Answer {
         }
     }
 
-    /// What the row of these widths in dots says, light first and last, as `read_row` reads it; or why they are no row.
+    /// Reads the row of these widths in dots, light first and last, as `read_row` does; or writes why they are no
+    /// row.
     pub fn read_widths(&mut self, widths: &[u16], terms: Year)
         ensures { IsWidthsAnswer terms widths.now self.new }
     {
@@ -65,8 +66,8 @@ impl Answer {
         }
     }
 
-    /// What a row of this many packed dots says: the first dot of a byte is its high bit, and 1 is dark; or why they are
-    /// no row.
+    /// Reads a row of this many packed dots; or writes why they are no row. The first dot of a byte is its high bit,
+    /// and 1 is dark.
     pub fn read_dots(&mut self, bits: &[u8], count: u32, terms: Year)
         ensures { IsDotsAnswer terms bits.now count self.new }
     {

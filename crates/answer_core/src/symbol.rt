@@ -8,7 +8,7 @@ use scan_core::Carrier;
 /// A kind of symbol. Its number, from 0 in this order, is part of the layout of an answer.
 #[derive(Clone, Copy, Debug, PartialEq, Eq)]
 pub enum SymbolKind {
-    /// Not known: no identifier was sent.
+    /// Unknown: there was no identifier.
     Unknown,
     Ean13,
     UpcA,
@@ -41,8 +41,8 @@ fn begins_zeros(text: &[u8]) -> bool
     }
 }
 
-/// The symbol that was read in a row, of this element string. An EAN-13 of a GTIN of 12 digits is a UPC-A: both have the
-/// same bars (ISO/IEC 15420).
+/// The symbol in a row with this element string. An EAN-13 with a GTIN of 12 digits is a UPC-A: both have the same
+/// bars (ISO/IEC 15420).
 pub(crate) fn carrier_symbol(carrier: Carrier, text: &[u8]) -> SymbolKind
     ensures { result ≡ carrier_symbol carrier text.now }
 {
@@ -67,7 +67,7 @@ fn ean_upc_symbol(digits: &[u8]) -> SymbolKind
     }
 }
 
-/// The symbol that a scanner read, as the head of its message and the digits behind it say.
+/// The symbol that a scanner read, by the head of its message and the digits behind it.
 pub(crate) fn sent_symbol(head: Option<Head>, text: &[u8]) -> SymbolKind
     ensures { result ≡ sent_symbol head text.now }
 {
@@ -106,7 +106,8 @@ pub(crate) fn sent_identifier(head: Option<Head>) -> [u8; 4]
     }
 }
 
-/// The symbol of an identifier and an element string. Of `]E0` it is a guess: an EAN-13, or a UPC-A if the GTIN has 12 digits.
+/// The symbol of an identifier and an element string. For `]E0` it is a guess: an EAN-13, or a UPC-A if the GTIN has
+/// 12 digits.
 pub(crate) fn identified_symbol(identifier: [u8; 4], text: &[u8]) -> SymbolKind {
     match Symbology::named(&identifier[..3]) {
         None => SymbolKind::Unknown,

@@ -1,4 +1,4 @@
-//! Answers to texts as people type, print and paste them.
+//! Answers texts as people type, print and paste them.
 ghost use Rattle.std.specs.Prelude.{◌≡◌, ◌==◌, ◌≤◌, IfNone, IfSome, None, Some, false, length, true};
 ghost use Rattle.std.specs.Char.{is_ascii_digit};
 ghost use Rattle.std.specs.List.{list_all};
@@ -29,7 +29,7 @@ pub enum TextKind {
     Parentheses,
     /// As one with each AI in brackets.
     Brackets,
-    /// As what a scanner sends.
+    /// As the text of a scanner.
     Sent,
     /// As an element string whose separator is byte 29 or `^`.
     Separated,
@@ -37,7 +37,7 @@ pub enum TextKind {
     Number,
 }
 
-/// Whether a separator stands in a text.
+/// Whether a text has a separator.
 fn has_separator(text: &[u8]) -> bool
     ensures { result ≡ has_separator text.now }
 {
@@ -62,7 +62,7 @@ fn text_kind(text: &[u8]) -> TextKind
     }
 }
 
-/// The elements of a printed text, if they fit and have no fault.
+/// The elements of a printed text, if they fit and have no error.
 fn read_elements(marks: Marks, text: &[u8], terms: Year, pairs: &mut Pairs) -> Option<Elements>
     ensures some { IfSome result (λ elements. elements.list ≡ printed marks text.now) }
     ensures read { IfSome result (λ elements. is_read terms marks text.now ≡ true) }
@@ -94,7 +94,7 @@ fn are_digits(text: &[u8]) -> bool
     text.iter().all(|byte| byte.is_ascii_digit())
 }
 
-/// Whether digits are no GTIN that is certain: zeros alone, or eight of which the first is 0.
+/// Whether digits are no certain GTIN: only zeros, or eight digits that begin with 0.
 fn is_no_gtin(digits: &[u8]) -> bool
     requires { length digits.now ≤ 192 }
     ensures { result ≡ is_no_gtin digits.now }
@@ -104,7 +104,7 @@ fn is_no_gtin(digits: &[u8]) -> bool
 }
 
 impl Answer {
-    /// Writes why printed elements are not read.
+    /// Writes the error of printed elements.
     fn refuse_placed(&mut self, fault: ElementFault, pairs: &[Pair], terms: Year)
         requires fault { list_fault terms (entries_of pairs.now) ≡ Some fault }
         requires few { length pairs.now ≤ 48 }
@@ -119,7 +119,7 @@ impl Answer {
         self.refuse(Refusal { kind, place });
     }
 
-    /// Writes that a text is not printed so.
+    /// Writes that a text is not printed in this way.
     fn refuse_whole(&mut self, kind: RefusalKind)
         ensures told { TellsRefusal kind None self.new }
         ensures kept { IsNamedAs self.old self.new }
@@ -127,7 +127,7 @@ impl Answer {
         self.refuse(Refusal { kind, place: None });
     }
 
-    /// Writes why a printed text is not read, by any two to four digits between signs.
+    /// Writes the error of a printed text, if any two to four digits between the characters count as an AI.
     fn refuse_printed(&mut self, marks: Marks, text: &[u8], terms: Year, pairs: &mut Pairs)
         ensures told { TellsPrintedFault terms marks text.now self.new }
         ensures kept { IsNamedAs self.old self.new }
@@ -145,7 +145,7 @@ impl Answer {
         }
     }
 
-    /// What a printed element string says.
+    /// Reads a printed element string.
     fn read_printed(&mut self, opening: u8, closing: u8, text: &[u8], terms: Year)
         ensures { IsPrintedAnswer opening closing terms text.now self.new }
     {
@@ -166,7 +166,7 @@ impl Answer {
         }
     }
 
-    /// What an element string says whose separator is byte 29 or `^`.
+    /// Reads an element string whose separator is byte 29 or `^`.
     fn read_spelled(&mut self, text: &[u8], terms: Year)
         ensures { IsStringAnswer terms (spelled text.now) self.new }
     {
@@ -177,7 +177,7 @@ impl Answer {
         }
     }
 
-    /// The GTIN of a number with blanks and hyphens in it.
+    /// Reads a GTIN with blanks and hyphens in it.
     fn read_number(&mut self, text: &[u8], terms: Year)
         ensures { IsNumberAnswer terms (without_gaps gap.Number text.now) self.new }
     {
@@ -188,17 +188,19 @@ impl Answer {
         }
     }
 
-    /// What a text says as people type, print and paste it, in UTF-8:
+    /// Reads a text as people type, print and paste it, in UTF-8:
     ///
-    /// - an element string with each AI of the table in parentheses, or each in brackets, before its value, which ends before the next
-    ///   (GS1 General Specifications, section 4.14);
-    /// - what a scanner sends, as `read_message` reads it: behind an identifier or a separator, or a GS1 Digital Link;
+    /// - an element string with each AI of the table in parentheses, or each in brackets, before its value, which
+    ///   ends before the next AI (GS1 General Specifications, section 4.14);
+    /// - the text of a scanner, as `read_message` reads it: behind an identifier or a separator, or a GS1 Digital
+    ///   Link;
     /// - an element string with a separator, byte 29 or `^`;
-    /// - or else a GTIN of 8, 12, 13 or 14 digits with blanks and hyphens, such as an ISBN.
+    /// - otherwise a GTIN of 8, 12, 13 or 14 digits with blanks and hyphens, such as an ISBN.
     ///
-    /// White space is ignored at the ends of a text, around printed values, and within those of digits alone. The place of a printed
-    /// element is its offset in the text of all of them with a separator between each two. Signs elsewhere than around AIs are
-    /// error 5 (`UnknownAi`) if the elements are refused. Zeros alone, and eight digits that begin with 0, are error 40 (`Kind`).
+    /// It ignores white space at the ends of a text, around printed values, and within values that have only digits.
+    /// The place of a printed element is its offset in the text of all elements with a separator between each two. If
+    /// the elements are refused and there are parentheses or brackets that are not around AIs, the error is 5
+    /// (`UnknownAi`). Zeros alone, and eight digits that begin with 0, are error 40 (`Kind`).
     pub fn read_text(&mut self, text: &[u8], terms: Year)
         ensures { IsTextAnswer terms text.now self.new }
     {

@@ -1,4 +1,4 @@
-//! Texts that say the elements of an answer: what a scanner sends, and Digital Links.
+//! Writes the elements of an answer as texts: what a scanner sends, and Digital Links.
 ghost use Rattle.std.specs.Prelude.{◌≡◌, ◌==◌, ◌≤◌, ◌+◌, ◌++◌, IfErr, IfOk, OnOk, None, Some, length, map, not, take};
 ghost use Rattle.std.specs.List.{list_all};
 ghost use Rattle.digits_core.specs.Buffers.{IsPut};
@@ -31,7 +31,7 @@ fn text_of(bytes: &[u8]) -> Text
     text
 }
 
-/// The elements at these places, or their fault.
+/// The elements at these places, or their error.
 fn elements_at(text: &[u8], places: &[Place], terms: Year) -> Result<Elements, ElementFault>
     requires text { length text.now ≤ 192 }
     requires few { length places.now ≤ 48 }
@@ -96,14 +96,14 @@ fn is_stem(stem: &[u8]) -> bool
     is_uri(stem) && has_no(b'?', stem) && has_no(b'#', stem)
 }
 
-/// Puts why nothing is written.
+/// Puts the reason why there is no text.
 fn put_message_fault(fault: MessageFault, out: &mut [u8]) -> usize
     ensures { IsPut (message_fault_text fault) out.old out.new result }
 {
     put_refusal(fault.refusal(), out)
 }
 
-/// Puts the identifier of a symbology and the element string of the elements at these places, or their fault.
+/// Puts the identifier of a symbology and the element string of the elements at these places, or their error.
 fn put_sent(
     symbology: Symbology,
     text: &[u8],
@@ -153,7 +153,7 @@ fn coded_parts(text: &[u8], order: &LinkOrder) -> Coded
     line
 }
 
-/// Puts a stem and the path and the query of a link, or the fault of its elements.
+/// Puts a stem and the path and the query of a link, or the error of its elements.
 fn put_ordered(stem: &[u8], text: &[u8], order: &LinkOrder, terms: Year, out: &mut [u8]) -> usize
     requires text { length text.now ≤ 192 }
     requires few { length order.now.path.items + length order.now.query.items ≤ 48 }
@@ -197,9 +197,10 @@ impl Answer {
         &self.elements[..usize::from(self.count).min(MOST_ELEMENTS)]
     }
 
-    /// Puts the text that a scanner sends of a symbol with these elements: a symbology identifier and the element string (GS1 General
-    /// Specifications, section 5.1.3); or the error of the answer. Another identifier than those of symbologies whose symbols carry
-    /// element strings is error 40 (`Kind`), and elements that are none by the terms have their error.
+    /// Puts the text that a scanner sends for a symbol with these elements: a symbology identifier and the element
+    /// string (GS1 General Specifications, section 5.1.3); or the error of the answer. The identifier must be that of
+    /// a symbology whose symbols carry element strings; any other is error 40 (`Kind`). If the elements are not valid
+    /// under the terms, it puts their error.
     pub fn put_scan(&self, identifier: &[u8], terms: Year, out: &mut [u8]) -> usize
         ensures { IsPut (written_text (scan_text terms (symbology_named identifier.now)) self.now) out.old out.new result }
     {
@@ -214,9 +215,10 @@ impl Answer {
         }
     }
 
-    /// Puts the Digital Link of these elements with a stem, such as `https://id.gs1.org` (GS1 Digital Link: URI syntax, section 4): the
-    /// first key and its qualifiers in the path, the others in the query; or the error of the answer. Without a key, or with a stem that
-    /// is no URI of the web or has a query, it is error 40 (`Kind`), and elements that are none by the terms have their error.
+    /// Puts the Digital Link of these elements with a stem, such as `https://id.gs1.org` (GS1 Digital Link: URI
+    /// syntax, section 4). The path has the first key and its qualifiers, the query the others. Or it puts the error
+    /// of the answer. Without a key, or with a stem that is no URI of the web or has a query, this is error 40
+    /// (`Kind`). If the elements are not valid under the terms, it puts their error.
     pub fn put_link(&self, stem: &[u8], terms: Year, out: &mut [u8]) -> usize
         ensures { IsPut (written_text (link_text terms stem.now) self.now) out.old out.new result }
     {

@@ -1,4 +1,4 @@
-//! The values that are printed for an element string.
+//! The values that encode an element string.
 ghost use Rattle.std.specs.Prelude.{◌≡◌, ◌↔◌, ◌≤◌, ◌<◌, ◌++◌, IsTrue, drop, length, slice_index};
 ghost use Rattle.std.specs.List.{list_all};
 ghost use Rattle.arrayvec.specs.ArrayVec.{array_vec_len};
@@ -9,15 +9,15 @@ use crate::meanings::SEPARATOR;
 use crate::special_values::{CODE_B, CODE_C, FNC1};
 use arrayvec::ArrayVec;
 
-/// What was coded of a text so far.
+/// The values of the text so far.
 #[derive(Drop)]
 struct Coder {
     values: ArrayVec<u8, 96>,
-    /// Whether the code set is C, and not B.
+    /// Whether the code set is C; otherwise it is B.
     in_c: bool,
 }
 
-/// How many digits stand without a break at the front.
+/// How many digits are at the front without a break.
 fn run_length(text: &[u8]) -> usize
     ensures value { result ≡ digits_ahead text.now }
     ensures within { result ≤ length text.now }
@@ -30,7 +30,7 @@ fn run_length(text: &[u8]) -> usize
     text.len()
 }
 
-/// Whether an even number of digits stands at the front, four or more.
+/// Whether the front has an even number of digits, at least four.
 fn is_even_run(text: &[u8]) -> bool
     ensures { result ≡ has_even_run text.now }
 {
@@ -38,7 +38,7 @@ fn is_even_run(text: &[u8]) -> bool
     digits >= 4 && digits % 2 == 0
 }
 
-/// Whether two digits stand at the front.
+/// Whether the front has two digits.
 fn is_pair(text: &[u8]) -> bool
     ensures { IsTrue result ↔ (2 ≤ digits_ahead text.now) }
 {
@@ -59,7 +59,7 @@ fn pair_at_front(text: &[u8]) -> u8
     10 * (text[0] - b'0') + (text[1] - b'0')
 }
 
-/// Whether two digits at the front are coded as one value, in code set C.
+/// Whether the two digits at the front become one value, in code set C.
 fn takes_pair(in_c: bool, text: &[u8]) -> bool
     ensures { result ≡ begins_pair in_c text.now }
 {
@@ -70,7 +70,7 @@ fn takes_pair(in_c: bool, text: &[u8]) -> bool
     }
 }
 
-/// Changes to code set C, or else to B, if it is not in use.
+/// Changes to code set C, or otherwise to B, unless it is in use.
 fn change_to(coder: &mut Coder, in_c: bool)
     requires room { array_vec_len coder.old.values < 96 }
     ensures values { coder.new.values.items ≡ coder.old.values.items ++ change coder.old.in_c in_c }
@@ -82,7 +82,7 @@ fn change_to(coder: &mut Coder, in_c: bool)
     }
 }
 
-/// Codes the beginning of a text, and gives the number of bytes that it took.
+/// Encodes the beginning of a text, and returns how many bytes that took.
 fn put_front(coder: &mut Coder, text: &[u8]) -> usize
     requires some { 0 < length text.now }
     requires valid { IsTrue (list_all is_coded_byte text.now) }
@@ -105,7 +105,7 @@ fn put_front(coder: &mut Coder, text: &[u8]) -> usize
     1
 }
 
-/// The data values that are printed for an element string: FNC1 and the text, from code set C on.
+/// The data values of an element string: FNC1 and the text, from code set C on.
 pub(crate) fn values_of(text: &[u8]) -> ArrayVec<u8, 96>
     requires few { length text.now ≤ 48 }
     requires valid { IsTrue (list_all is_coded_byte text.now) }

@@ -32,11 +32,11 @@ fn symbol(start: u8, values: &[u8], check: u8) -> Modules
     Modules::of(widths.as_slice()).unwrap()
 }
 
-/// The GS1-128 symbol of elements: start character C, FNC1, the canonical text in code sets C and B
-/// by a fixed rule that is not always the shortest, and the check character
-/// (GS1 General Specifications, section 5.4).
+/// The GS1-128 symbol of elements (GS1 General Specifications, section 5.4): start character C, FNC1, the canonical
+/// text in code sets C and B, and the check character. The rule for code sets is fixed; the symbol is not always the
+/// shortest.
 ///
-/// The fault `TooManyCharacters` comes exactly if the canonical text has more than 48 bytes.
+/// The error is `TooManyCharacters`, exactly if the canonical text has more than 48 bytes.
 pub fn encode(elements: &Elements) -> Result<Modules, TooManyCharacters>
     ensures drawn { IfOk result (λ m. let values = data_values (canonical elements.now.list)
         in IsCode128Symbol 105 values (mod103 105 values) m) }

@@ -1,4 +1,4 @@
-//! Why values say no element string, and why elements are not encoded.
+//! Why values have no element string, and why elements cannot be encoded.
 ghost use Rattle.std.specs.Prelude.{Some, ◌≡◌};
 ghost use Rattle.digits_core.specs.Refusals.{refusal_text, refusal_words};
 ghost use Rattle.digits_core.specs.declared.refusal.RefusalKind.TheVariants as refusal;
@@ -7,8 +7,8 @@ ghost use Rattle.code128_code.specs.Faults.{code128_fault_text};
 use digits_core::{Refusal, RefusalKind};
 use std::fmt;
 
-/// Why the values of a Code 128 symbol say no text: the first of these tests that they fail, and of
-/// values without a meaning the first from the left.
+/// Why the values of a Code 128 symbol have no text: the first of these tests that they fail. If several values have
+/// no meaning, the error is that of the first.
 #[derive(Clone, Copy, Debug, PartialEq, Eq)]
 pub enum Code128Fault {
     /// The check character is wrong.
@@ -44,8 +44,8 @@ impl fmt::Display for Code128Fault {
     }
 }
 
-/// The canonical text of elements has more than 48 bytes, which is more than one symbol may print
-/// (GS1 General Specifications, section 5.4).
+/// The canonical text of elements has more than 48 bytes, the limit of one symbol (GS1 General Specifications,
+/// section 5.4).
 #[derive(Clone, Copy, Debug, PartialEq, Eq)]
 pub struct TooManyCharacters;
 

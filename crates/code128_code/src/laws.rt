@@ -1,4 +1,4 @@
-//! Laws of the definitions: each function does nothing, and its contract is the law.
+//! Laws about the definitions. Each is the contract of a function that does nothing.
 ghost use Rattle.std.specs.Prelude.{List, ℕ};
 ghost use Rattle.code128_code.specs.Laws.{CodedIsSaid, CodedIsShort, Measures, ModulesSay, OneReading, OneWay, PrintedIsSaid, ReplacedIsUnchecked, SaidIsShort, TextOrFault};
 ghost use Rattle.code128_code.specs.declared.code_set.CodeSet.{CodeSet};
@@ -8,7 +8,7 @@ pub fn one_reading()
     ensures { OneReading }
 {}
 
-/// No symbol is one when it is read backwards.
+/// No symbol is a symbol when read backwards.
 pub fn one_way()
     ensures { OneWay }
 {}
@@ -19,39 +19,39 @@ pub fn measures()
     ensures { Measures }
 {}
 
-/// If the check character is right, one start, data or check character replaced by another
-/// leaves a wrong one.
+/// If one start, data or check character of a symbol with the right check character is replaced by another, the check
+/// character is wrong.
 pub fn replaced_is_unchecked()
     ensures { ReplacedIsUnchecked }
 {}
 
-/// A symbol's values say a text exactly if its modules are the GS1-128 symbol of that text.
+/// The values of a symbol mean a text exactly if its modules are the GS1-128 symbol of that text.
 pub fn modules_say()
     ensures { ModulesSay }
 {}
 
-/// The values that are printed for a text say that text.
+/// The values that encode a text mean that text.
 pub fn coded_is_said()
     ensures { CodedIsSaid }
 {}
 
-/// The symbol that is printed for a text is the GS1-128 symbol of that text.
+/// The symbol that is drawn for a text is the GS1-128 symbol of that text.
 pub fn printed_is_said()
     ensures { PrintedIsSaid }
 {}
 
-/// The values that are printed for an element string are at most as many as its bytes.
+/// The values that encode an element string are at most as many as its bytes.
 pub fn coded_is_short()
     ensures { CodedIsShort }
 {}
 
-/// Values say at most two bytes each.
+/// Each value means at most two bytes.
 pub fn said_is_short()
     ensures { SaidIsShort }
 {}
 
-/// Values have a text exactly where each has a meaning in turn, and otherwise the fault of the
-/// first that has none.
+/// Values have a text exactly if each has a meaning in turn. Otherwise they have the error of the first that has
+/// none.
 pub fn text_or_fault()
     ensures { (set : CodeSet) (values : List ℕ) → TextOrFault set values }
 {}

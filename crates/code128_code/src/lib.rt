@@ -1,5 +1,5 @@
-//! Code 128 and GS1-128 symbols (ISO/IEC 15417): drawn from a list of elements, and read again from
-//! their widths in modules, first as values and then as the text that the values say.
+//! Draws Code 128 and GS1-128 symbols (ISO/IEC 15417) from a list of elements, and reads them from their widths in
+//! modules: first as values, then as the text of these values.
 #![tactic(auto)]
 
 mod check;

@@ -267,9 +267,9 @@ static VALUES: [u8; 4096] = [
     255, 255, 255, 255, 255, 255, 255, 255, 255, 255, 255, 255, 255, 255, 255, 255,
 ];
 
-/// The value 0 to 105 of the symbol character with these widths, packed: each width in modules less
-/// one in two bits, the first bar's highest. None where no character has them, as from 4,096 on
-/// (ISO/IEC 15417, symbol character encodation).
+/// The value 0 to 105 of the symbol character with these widths (ISO/IEC 15417, symbol character encodation). None if
+/// no character has them, as for numbers from 4,096 on. The widths are packed: each width in modules less one in two
+/// bits, the first bar's highest.
 pub fn character(packed: u16) -> Option<u8>
     ensures found { IfSome result (λ v. (v < 106) × (packed_widths (pattern v) ≡ packed)) }
     ensures none { IfNone result ((v : ℕ) → v < 106 → packed_widths (pattern v) ≢ packed) }

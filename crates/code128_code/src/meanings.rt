@@ -1,4 +1,4 @@
-//! What the values of symbol characters mean in the code sets.
+//! The meanings of symbol characters' values in the code sets.
 ghost use Rattle.std.specs.Prelude.{◌≡◌, ◌<◌};
 ghost use Rattle.code128_code.specs.Texts.{byte_a, meaning, special};
 ghost use Rattle.code128_code.specs.declared.code_set.CodeSet.TheVariants.{C};
@@ -6,7 +6,7 @@ ghost use Rattle.code128_code.specs.declared.code_set.CodeSet.TheVariants.{C};
 use crate::code_set::CodeSet;
 use crate::special_values::{CODE_A, CODE_B, CODE_C, FNC1, SHIFT};
 
-/// The byte that a GS1-128 symbol says by FNC1 after its first value: the separator, ASCII GS.
+/// The byte that FNC1 means in a GS1-128 symbol after the first value: the separator, ASCII GS.
 pub(crate) const SEPARATOR: u8 = 29;
 
 /// What a value means in a code set (ISO/IEC 15417, code set tables).
@@ -16,9 +16,9 @@ pub enum Meaning {
     Byte(u8),
     /// The two digits of a number below 100.
     Digits(u8),
-    /// From the next value on another code set.
+    /// Another code set from the next value on.
     Latch(CodeSet),
-    /// The next value alone is of the other one of code sets A and B.
+    /// The other one of code sets A and B, for the next value only.
     Shift,
     /// FNC2, FNC3 or FNC4, which no GS1-128 symbol has.
     Function,
@@ -32,7 +32,7 @@ pub(crate) fn byte_of_a(value: u8) -> u8
     if value < 64 { value + 32 } else { value - 64 }
 }
 
-/// What a value from 96 on means in code sets A and B: `change` changes to the other of the two.
+/// The meaning of a value from 96 on in code sets A and B: `change` changes to the other of the two.
 fn special_meaning(value: u8, change: u8, other: CodeSet) -> Meaning
     ensures { result ≡ special value change other }
 {
@@ -65,7 +65,7 @@ fn meaning_in_c(value: u8) -> Meaning
     }
 }
 
-/// What a value means in a code set.
+/// The meaning of a value in a code set.
 pub(crate) fn meaning_of(set: CodeSet, value: u8) -> Meaning
     ensures { result ≡ meaning set value }
 {

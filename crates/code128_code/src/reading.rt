@@ -77,16 +77,16 @@ fn is_stop(widths: &[u8]) -> bool
     widths == STOP.as_slice()
 }
 
-/// Whether a symbol may have this number of widths: six for each of 3 to 98 characters, and seven
-/// for the stop.
+/// Whether a symbol can have this number of widths: six for each of 3 to 98 characters, and seven for the stop
+/// character.
 fn is_symbol_length(count: usize) -> bool
     ensures { IsTrue result ↔ ((25 ≤ count) × (count % 6 ≡ 1)) }
 {
     count >= 25 && count % 6 == 1
 }
 
-/// The start, data and check characters that these modules show, read forwards alone: none where
-/// they are no Code 128 symbol with 1 to 96 data values (ISO/IEC 15417, symbol structure).
+/// The start, data and check characters of these modules, read only forwards. None if the modules are no Code 128
+/// symbol with 1 to 96 data values (ISO/IEC 15417, symbol structure).
 pub fn values(modules: &Modules) -> Option<Values>
     ensures some { IfSome result (λ v. IsCode128Symbol v.start v.values.items v.check modules.now) }
     ensures none { IfNone result ((start : ℕ) (values : List ℕ) (check : ℕ)

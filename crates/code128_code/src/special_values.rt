@@ -1,6 +1,6 @@
 //! The values of symbol characters that are no data (ISO/IEC 15417, code set tables).
 
-/// The next value alone is of the other one of code sets A and B, in A and B.
+/// The next value only is in the other one of code sets A and B; in A and B.
 pub(crate) const SHIFT: u8 = 98;
 
 /// Code set C from the next value on, in A and B.

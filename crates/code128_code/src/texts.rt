@@ -12,12 +12,12 @@ use crate::special_values::{FNC1, START_A, START_B};
 use crate::symbol_values::Values;
 use element_core::Text;
 
-/// What was read of the data values so far.
+/// The text of the data values so far.
 #[derive(Drop)]
 struct Reader {
     text: Text,
     set: CodeSet,
-    /// Whether a SHIFT stands directly before the next value.
+    /// Whether the value before the next one was a SHIFT.
     shifted: bool,
 }
 
@@ -124,13 +124,12 @@ fn is_gs1(values: &[u8]) -> bool
     values.first() == Some(&FNC1)
 }
 
-/// The text of a GS1-128 symbol by its values: of those after the first, which is FNC1, at most 190
-/// bytes. A later FNC1 is a separator, byte 29 (GS1 General Specifications, section 5.4).
+/// The text of a GS1-128 symbol: that of the values after the first one, which is FNC1, at most 190 bytes. A later
+/// FNC1 is a separator, byte 29 (GS1 General Specifications, section 5.4).
 ///
-/// The fault is `CheckCharacter` if the check character is wrong, then `NotGs1` if the first
-/// value is not FNC1, then that of the first value from the left that means nothing in its code
-/// set: `FunctionCharacter` for FNC2, FNC3, FNC4 and for what is no data value, `CodeSet` for a
-/// SHIFT without a value 0 to 95 after it.
+/// The error is `CheckCharacter` if the check character is wrong, then `NotGs1` if the first value is not FNC1, then
+/// that of the first value without a meaning in its code set: `FunctionCharacter` for FNC2, FNC3, FNC4 and for a
+/// value that is no data value, `CodeSet` for a SHIFT without a value 0 to 95 after it.
 pub fn text_of(values: &Values) -> Result<Text, Code128Fault>
     ensures text { IfOk result (λ text.
         symbol_text values.now.start values.now.values.items values.now.check ≡ Ok text.items) }

@@ -1,4 +1,4 @@
--- The arguments that commands share: the rules that `clap` is told of, and what its matches have under their names.
+-- The arguments that commands share: the rules that `clap` gets, and what its matches have under their names.
 use Rattle.std.specs.Prelude.{◌≡◌, ℕ, pos, Bool, List, [], ◌∷◌, Some, true, false, codes}
 use Rattle.std.specs.Int.{IsInRange}
 use Rattle.std.specs.Borrow.{Bor}
@@ -58,7 +58,7 @@ flag_rule name = record (new_rule name) {
 abbrev pub Choices : Type 0
 Choices = Bor (List (Bor Text))
 
--- a value at a place that is of no account
+-- a value at a place that does not matter
 abbrev pub placed : {X : Type 0} → X → Bor X
 placed x = record { ref_ptr = (0, 0); now = x }
 
@@ -167,7 +167,7 @@ flag_text false = codes "false"
 abbrev pub HasFlag : Text → List Row → Bool → Type 0
 HasFlag name rows is_set = one_of name rows ≡ Some (flag_text is_set)
 
--- elements one by one are asked for by a flag, else it is the human-readable text
+-- a flag asks for separate elements; otherwise it is the human-readable text
 abbrev pub asks_elements : Form → Bool
 asks_elements form.HumanReadable = false
 asks_elements form.Pairs = true

@@ -17,7 +17,7 @@ Asks (Some p) a = AsksIn p.0 p.1 a
 abbrev pub WordsAsk : List Text → Asked → Type 0
 WordsAsk words a = (fault_of hub_app words ≡ []) × Asks (subcommand_of hub_app words) a
 
--- help is asked for, or the version
+-- the arguments ask for help, or for the version
 abbrev pub IsRequest : ErrorKind → Type 0
 IsRequest k = (k ≡ kind.DisplayHelp) ⊎ (k ≡ kind.DisplayVersion)
 

@@ -1,4 +1,4 @@
--- The numbers that a grid is asked for with. Modules, widths and heights are in dots.
+-- The numbers of a grid in the arguments. Modules, widths and heights are in dots.
 use Rattle.std.specs.Prelude.{ℕ}
 use Rattle.std.specs.Int.{IsInRange}
 

@@ -28,7 +28,7 @@ abbrev pub with_commands : App → List App → App
 with_commands a [] = a
 with_commands a (c ∷ cs) = with_commands (with_subcommand a c.top) cs
 
--- the commands, of which `--ais` has these choices
+-- the commands; their `--ais` has these choices
 abbrev pub hub_commands : Choices → List App
 hub_commands choices = check_app choices ∷ print_app choices ∷ lanes_app choices ∷ scan_app choices ∷ live_app choices ∷ []
 
@@ -48,7 +48,7 @@ AsksIn name rows (asked.Lanes o) = (name ≡ codes "lanes") × HasLanes rows o
 AsksIn name rows (asked.Scan o) = (name ≡ codes "scan") × HasScan rows o
 AsksIn name rows (asked.Live o) = (name ≡ codes "live") × HasLive rows o
 
--- the command over its whole input that is asked for, or what is read as it comes
+-- the command over its whole input that the arguments ask for, or the options of the one that reads its input as it comes
 abbrev pub batch_of : Asked → Result WholeInput LiveOptions
 batch_of (asked.Check year) = Ok (batch.Check year)
 batch_of (asked.Print o) = Ok (batch.Print o)

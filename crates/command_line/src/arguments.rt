@@ -1,5 +1,5 @@
-//! The arguments that commands share: as `clap` is told of them, and as they are read of its matches.
-//! The greatest numbers and the first and the last year are definitions of specs/ too, and the help says them.
+//! The arguments that commands share: how `clap` is set up for them, and how their values are read from its matches.
+//! specs/ defines the greatest numbers and the first and the last year too, and the help prints them.
 ghost use Rattle.std.specs.Prelude.{◌<◌, ◌≡◌, ◌^◌, Bool, ℕ, IfNone, IfSome, false};
 ghost use Rattle.element_core.specs.Terms.{Terms};
 ghost use Rattle.clap.specs.Words.{app_of, found_of, new_app, rows_of, rule_of};
@@ -60,7 +60,7 @@ const YEAR: &str = "Reference year for years of two digits, 1951 to 2149, such a
 /// The option `--ais`.
 const AIS: &str = "Accept the AIs of the profile, or all of the GS1 General Specifications";
 
-/// The command of this name, before it has arguments. The help says `about` of it, and ends with `example`.
+/// The command with this name, before it has arguments. Its help has `about`, and ends with `example`.
 pub fn command<'a>(alloc: Global, name: &'a str, about: &'a str, example: &'a str) -> Command<'a>
     ensures app { app_of result ≡ new_app name.now }
     ensures own { (out-Command result).has_globals ≡ false }
@@ -68,8 +68,8 @@ pub fn command<'a>(alloc: Global, name: &'a str, about: &'a str, example: &'a st
     Command::new(alloc, name).about(about).after_help(example)
 }
 
-/// The option `--name`, which is required and takes a number from `least` to `most`. The help calls
-/// the number `value`, and says `help` of it.
+/// The option `--name`. It is required and takes a number from `least` to `most`. The help calls the number `value`
+/// and describes it with `help`.
 pub fn number<'a>(
     alloc: Global,
     name: &'a str,
@@ -91,7 +91,7 @@ pub fn number<'a>(
         .help(help)
 }
 
-/// The option `--name`, which has no value and may be left out, and of which the help says `help`.
+/// The option `--name`, a flag without a value. The help describes it with `help`.
 pub fn flag<'a>(alloc: Global, name: &'a str, help: &'a str) -> Arg<'a>
     ensures rule { rule_of result ≡ flag_rule name.now }
     ensures own { result.global ≡ false }
@@ -102,8 +102,8 @@ pub fn flag<'a>(alloc: Global, name: &'a str, help: &'a str) -> Arg<'a>
         .help(help)
 }
 
-/// The option `--name`, which takes one of these choices and may be left out: then `usual` is chosen. The help calls
-/// the choice `value`, and says `help` of it.
+/// The option `--name`, which takes one of these choices. If it is left out, `usual` is chosen. The help calls the
+/// choice `value` and describes it with `help`.
 pub fn choice<'a>(
     alloc: Global,
     name: &'a str,
@@ -124,7 +124,7 @@ pub fn choice<'a>(
         .help(help)
 }
 
-/// The option `--lanes`, how many lanes there are.
+/// The option `--lanes`, the number of lanes.
 pub fn lane_count<'a>(alloc: Global) -> Arg<'a>
     ensures rule { rule_of result ≡ lanes_rule }
     ensures own { result.global ≡ false }
@@ -133,7 +133,7 @@ pub fn lane_count<'a>(alloc: Global) -> Arg<'a>
     number(alloc, "lanes", 1, most, "COUNT", LANES)
 }
 
-/// The option `--module`, how wide a module is, in dots.
+/// The option `--module`, the width of a module in dots.
 pub fn module_width<'a>(alloc: Global) -> Arg<'a>
     ensures rule { rule_of result ≡ module_rule }
     ensures own { result.global ≡ false }
@@ -141,7 +141,7 @@ pub fn module_width<'a>(alloc: Global) -> Arg<'a>
     number(alloc, "module", 1, MOST_MODULE_DOTS, "DOTS", MODULE)
 }
 
-/// The option `--width`, how wide a cell is, in dots.
+/// The option `--width`, the width of a cell in dots.
 pub fn width<'a>(alloc: Global) -> Arg<'a>
     ensures rule { rule_of result ≡ width_rule }
     ensures own { result.global ≡ false }
@@ -149,7 +149,7 @@ pub fn width<'a>(alloc: Global) -> Arg<'a>
     number(alloc, "width", 1, MOST_WIDTH, "DOTS", WIDTH)
 }
 
-/// The option `--height`, how high a cell is, in dots.
+/// The option `--height`, the height of a cell in dots.
 pub fn height<'a>(alloc: Global) -> Arg<'a>
     ensures rule { rule_of result ≡ height_rule }
     ensures own { result.global ≡ false }
@@ -157,7 +157,7 @@ pub fn height<'a>(alloc: Global) -> Arg<'a>
     number(alloc, "height", 1, MOST_HEIGHT, "DOTS", HEIGHT)
 }
 
-/// The option `--columns`, how many columns of cells a sheet has.
+/// The option `--columns`, the number of columns of cells on a sheet.
 pub fn columns<'a>(alloc: Global) -> Arg<'a>
     ensures rule { rule_of result ≡ columns_rule }
     ensures own { result.global ≡ false }
@@ -165,7 +165,7 @@ pub fn columns<'a>(alloc: Global) -> Arg<'a>
     number(alloc, "columns", 1, MOST_COLUMNS, "COUNT", COLUMNS)
 }
 
-/// The option `--rows`, how many rows of cells a sheet has.
+/// The option `--rows`, the number of rows of cells on a sheet.
 pub fn rows<'a>(alloc: Global) -> Arg<'a>
     ensures rule { rule_of result ≡ rows_rule }
     ensures own { result.global ≡ false }
@@ -173,7 +173,7 @@ pub fn rows<'a>(alloc: Global) -> Arg<'a>
     number(alloc, "rows", 1, MOST_ROWS, "COUNT", ROWS)
 }
 
-/// The option `--workers`, how many of them read rows.
+/// The option `--workers`, the number of workers.
 pub fn workers<'a>(alloc: Global) -> Arg<'a>
     ensures rule { rule_of result ≡ workers_rule }
     ensures own { result.global ≡ false }
@@ -238,7 +238,7 @@ pub fn flag_named(matches: &ArgMatches<'_>, name: &str) -> Option<bool>
     matches.get_one::<bool>(name)
 }
 
-/// Whether every AI is accepted, and not those of the profile alone.
+/// Whether every AI is accepted, instead of only those of the profile.
 fn every_ai_named(matches: &ArgMatches<'_>) -> Option<bool>
     ensures some { IfSome result (HasAis (rows_of (found_of matches.now))) }
     ensures none { IfNone result ((b : Bool) → HasAis (rows_of (found_of matches.now)) b → ⊥) }

@@ -1,4 +1,4 @@
-//! The commands: which there are, and what the words of one ask for.
+//! The commands, and what their arguments ask for.
 ghost use Rattle.std.specs.Prelude.{◌≡◌, IfNone, IfOk, IfSome, List, Ok, map};
 ghost use Rattle.clap.specs.Words.{AddsInTurn, AddsSubcommand, app_of, found_of, rows_of};
 ghost use Rattle.clap.specs.declared.builder.command.Command.{Command};
@@ -28,36 +28,36 @@ use clap::{ArgMatches, Command};
 use element_core::Year;
 use std::alloc::{AllocError, Global};
 
-/// What the words ask for.
+/// What the arguments ask for.
 #[derive(Clone, Copy, Debug, PartialEq, Eq)]
 pub enum Asked {
-    /// Texts are to be checked, by this reference year and these AIs.
+    /// Check texts, with this reference year and these AIs.
     Check(Year),
-    /// Labels are to be printed.
+    /// Print labels.
     Print(PrintOptions),
-    /// The rows of these lanes are to be read.
+    /// Read the rows of these lanes.
     Lanes(LaneOptions),
-    /// The sheets of these images are to be read.
+    /// Read the sheets in these images.
     Scan(ScanOptions),
-    /// The rows of these lanes are to be read as they come.
+    /// Read the rows of these lanes as they come.
     Live(LiveOptions),
 }
 
-/// A command over its whole input, of which it writes nothing before it has read all.
+/// A command over its whole input. It writes nothing before it has read everything.
 #[derive(Clone, Copy, Debug, PartialEq, Eq)]
 pub enum WholeInput {
-    /// Texts are to be checked, by this reference year and these AIs.
+    /// Check texts, with this reference year and these AIs.
     Check(Year),
-    /// Labels are to be printed.
+    /// Print labels.
     Print(PrintOptions),
-    /// The rows of these lanes are to be read.
+    /// Read the rows of these lanes.
     Lanes(LaneOptions),
-    /// The sheets of these images are to be read.
+    /// Read the sheets in these images.
     Scan(ScanOptions),
 }
 
 impl Asked {
-    /// The command over its whole input that is asked for, or what is to be read as it comes.
+    /// The command over its whole input, or the options of the one that reads its input as it comes.
     pub fn batch(self) -> Result<WholeInput, LiveOptions>
         ensures { result ≡ batch_of self }
     {
@@ -83,7 +83,7 @@ fn program<'a>(alloc: Global) -> Command<'a>
         .subcommand_required(true)
 }
 
-/// The program with these commands, where each was made.
+/// The program with these commands, if all of them could be made.
 fn with_commands<'a>(
     program: Command<'a>,
     commands: [Result<Command<'a>, AllocError>; 5],
@@ -98,7 +98,7 @@ fn with_commands<'a>(
     Ok(whole)
 }
 
-/// The program with its commands, as `clap` reads their words; `--ais` takes these choices.
+/// The program with its commands for `clap`; `--ais` takes these choices.
 pub fn hub_words<'a>(alloc: Global, choices: &'a [&'a str]) -> Result<Command<'a>, AllocError>
     requires { AreAisChoices choices }
     ensures { IfOk result (λ c. IsHub (app_of c)) }

@@ -1,4 +1,5 @@
-//! The numbers of a grid of cells. `specs/Numbers.antt` has the greatest too, and the help in `arguments.rt` says them.
+//! The numbers of a grid of cells. `specs/Numbers.antt` has the greatest too, and the help in `arguments.rt` prints
+//! them.
 ghost use Rattle.std.specs.Prelude.{◌↔◌, IfSome, IsSome};
 ghost use Rattle.command_line.specs.Numbers.{AreGridNumbers};
 
@@ -37,8 +38,7 @@ pub struct GridOptions {
 impl GridOptions {
     ghost use Rattle.command_line.specs.Grids.{HasNumbers};
 
-    /// These numbers, or none if one of them alone lies outside its range. What they may be
-    /// together is for the grid that is made of them.
+    /// These numbers, or none if one of them is out of range. `Grid::new` checks later whether they fit together.
     pub fn new(
         module_dots: u16,
         width: u16,

@@ -1,7 +1,7 @@
-//! A law about the words, the contract of a function that does nothing.
+//! A law about the arguments, as the contract of a function that does nothing.
 ghost use Rattle.command_line.specs.Laws.{TakenAsk};
 
-/// Words in which `clap` finds no fault ask for a command with its numbers, each in its range.
+/// Arguments in which `clap` finds no error ask for a command with its numbers, each in its range.
 pub fn taken_words_ask()
     ensures { TakenAsk }
 {}

@@ -1,5 +1,5 @@
-//! The words of the command line: which command they ask for, with which numbers, and what is said where they ask for none.
-//! `tests/using/items.txt` lists what is exported here, and `tests/using/run` fails if the two differ.
+//! The command line: the command and the numbers that the arguments ask for, and what is wrong with arguments that
+//! ask for none. `tests/using/items.txt` lists the public items, and `tests/using/run` fails if the two differ.
 #![tactic(auto)]
 
 mod arguments;

@@ -1,4 +1,4 @@
-//! The words of the command line.
+//! The arguments of the program.
 ghost use Rattle.std.specs.Prelude.{Some, IfOk, IfSome, IfNone, IfErr, map, string_bytes};
 ghost use Rattle.clap.specs.Words.{kind_of, subcommand_rows_of};
 ghost use Rattle.command_line.specs.Asking.{AreFaulty, Asks, Explains, WordsAsk};
@@ -17,11 +17,11 @@ use std::fmt;
 /// Why no command is run.
 #[derive(Debug, Drop)]
 pub enum WordsFault {
-    /// The words are not those of a command.
+    /// The arguments are not those of a command.
     Words,
-    /// A growth was refused.
+    /// Memory was refused.
     NoMemory,
-    /// Help or the version was asked for, and this is its text.
+    /// The arguments ask for help or the version; this is its text.
     Help(String),
 }
 
@@ -46,7 +46,7 @@ fn asked_of(matches: &ArgMatches<'_>) -> Option<Asked>
     asked_by(name, inner)
 }
 
-/// The fault that stands for an error of `clap`.
+/// The error for an error of `clap`.
 fn fault_from(alloc: Global, error: &Error) -> WordsFault
     ensures { FaultOfKind (kind_of error.now) result }
 {
@@ -60,7 +60,7 @@ fn fault_from(alloc: Global, error: &Error) -> WordsFault
     }
 }
 
-/// The command, and its numbers, that the words ask for. The first word is the program's name.
+/// The command and its numbers that the arguments ask for. The first argument is the name of the program.
 pub fn read_words(alloc: Global, words: &[String]) -> Result<Asked, WordsFault>
     ensures asked { IfOk result (WordsAsk (map string_bytes words.now)) }
     ensures refused { IfErr result (Explains (map string_bytes words.now)) }
@@ -74,13 +74,13 @@ pub fn read_words(alloc: Global, words: &[String]) -> Result<Asked, WordsFault>
     };
     match asked_of(&matches) {
         Some(asked) => Ok(asked),
-        // Words that clap takes have every number.
+        // Arguments that clap accepts have every number.
         None => unreachable!(),
     }
 }
 
-/// What clap says of words that it refuses: which word, and what it expected. None if it takes them, if
-/// they ask for help or the version, and if there is no memory to say it.
+/// What clap says about arguments that it refuses: which one, and what it expected. None if it accepts them, if they
+/// ask for help or the version, or if memory is refused.
 pub fn sentence(alloc: Global, words: &[String]) -> Option<String>
     ensures { IfSome result (λ text. AreFaulty (map string_bytes words.now)) }
 {

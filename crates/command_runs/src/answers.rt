@@ -1,4 +1,4 @@
-//! Rows that are answered, and the report of their answers.
+//! Answers rows, and reports the answers.
 pub mod held_input;
 pub mod lines;
 pub mod report;

@@ -1,4 +1,4 @@
-//! A buffer before a sink.
+//! A buffer in front of a sink.
 ghost use Rattle.std.specs.Prelude.{◌≡◌, [], false, OnOk};
 ghost use Rattle.command_runs.specs.inner.Buffers.{KeepsBytes, TellsFailure, taken_and_waiting};
 
@@ -6,9 +6,9 @@ use crate::write_buffer::{ROOM, WriteBuffer};
 use digits_core::{Failed, Sink};
 use std::marker::Model;
 
-/// A sink that lets up to `ROOM` bytes wait, and writes them together to another, so that many small writes are few
-/// large ones. What waits counts as taken; at the end only `flush` writes it. Once the other sink has failed, nothing
-/// is written to it any more.
+/// A sink that collects up to `ROOM` bytes before it writes them to another sink, so that many small writes become
+/// few large ones. Bytes that wait count as written; at the end, only `flush` writes them. Once the other sink has
+/// failed, it gets no more bytes.
 #[derive(Drop)]
 pub struct Buffered<W: Sink> {
     sink: W,
@@ -28,7 +28,7 @@ impl<W: Sink> Model for Buffered<W> {
 }
 
 impl<W: Sink> Buffered<W> {
-    /// An empty buffer before a sink that has not failed.
+    /// An empty buffer in front of a sink that has not failed.
     pub fn new(sink: W) -> Buffered<W>
         requires { W.failed sink ≡ false }
         ensures { result ≡ record { sink = sink; waiting = [] } }
@@ -40,7 +40,7 @@ impl<W: Sink> Buffered<W> {
         }
     }
 
-    /// Writes what waits. What a failed write did not take waits still.
+    /// Writes the bytes that wait. If a write fails, those that it did not take still wait.
     pub fn flush(&mut self) -> Result<(), Failed>
         ensures bytes { KeepsBytes W.taken self.old self.new }
         ensures empty { OnOk result (self.new.waiting ≡ []) }
@@ -59,7 +59,7 @@ impl<W: Sink> Buffered<W> {
         Ok(())
     }
 
-    /// The sink, without what waits.
+    /// The sink, without the bytes that wait.
     pub fn into_inner(self) -> W
         ensures { result ≡ self.sink }
     {

@@ -1,4 +1,4 @@
-//! The rows that sheets give the lanes of their columns.
+//! The rows of sheets: each column of cells is a lane.
 ghost use Rattle.std.specs.Prelude.{[], ◌≡◌, ◌<◌, true, IfOk, OnOk, length, replicate};
 ghost use Rattle.hub_core.specs.Serving.{items_of};
 ghost use Rattle.command_runs.specs.Columns.{ReadsColumns, column_dots, has_size};
@@ -16,7 +16,7 @@ use std::alloc::{AllocError, Global};
 fn is_of_size(grid: Grid, sheet: &Sheet) -> bool
     ensures { result ≡ has_size grid sheet.now }
 {
-    // A law, by which neither product overflows.
+    // A law from which it follows that neither product overflows.
     grids_keep_limits(&grid);
     let width = grid.columns() * grid.cell_width();
     let height = grid.rows() * grid.cell_height();
@@ -35,7 +35,7 @@ fn push_column(
     requires size { has_size grid sheet.now ≡ true }
     ensures added { OnOk result (AddsDots (column_dots grid column sheet.now) rows.old.items rows.new.items) }
 {
-    // A law, by which `cell` does not overflow and the cell has a middle row.
+    // A law from which it follows that `cell` does not overflow and that the cell has a middle row.
     grids_keep_limits(&grid);
     for row in 0..grid.rows() {
         let cell = row * grid.columns() + column;
@@ -47,7 +47,7 @@ fn push_column(
     Ok(())
 }
 
-/// Appends the rows of a sheet's columns, each to the rows of its column.
+/// Appends the rows of a sheet's columns to the rows of these columns.
 fn push_columns(
     alloc: Global,
     grid: Grid,
@@ -64,12 +64,12 @@ fn push_columns(
     Ok(())
 }
 
-/// What is kept of sheets.
+/// The rows of the sheets so far.
 #[derive(Drop)]
 struct Kept {
-    /// The rows of each column, as long as each sheet has had the grid's size.
+    /// The rows of each column, as long as each sheet has had the size of the grid.
     feeds: Vec<Vec<Runs>>,
-    /// Whether each sheet has had the grid's size.
+    /// Whether each sheet has had the size of the grid.
     fit: bool,
 }
 
@@ -111,9 +111,9 @@ fn make_feeds(alloc: Global, columns: u16) -> Result<Vec<Vec<Runs>>, AllocError>
     Ok(feeds)
 }
 
-/// The rows of each column of the images that a source gives: column `c` is lane `c`, and its rows are the middle rows
-/// of its cells, from top to bottom, sheet after sheet. None if an image has another size than the grid's. The rows of
-/// an image are cut before the next is read, and the image is not kept.
+/// The rows of each column in the images of a source. Column `c` is lane `c`. Its rows are the middle rows of its
+/// cells, from top to bottom, sheet after sheet. None if the size of an image differs from the grid's. It cuts the
+/// rows of an image before it reads the next one, and does not keep the image.
 pub fn read_columns<S: Source>(
     alloc: Global,
     grid: Grid,
@@ -122,7 +122,8 @@ pub fn read_columns<S: Source>(
     ensures read { ReadsColumns grid (S.left source.old) (S.left source.new) result }
     ensures fault { TellsFault S.failed source.old source.new result PbmFault.ReadFault }
 {
-    // Laws, by which no lane has more rows than a hub takes: a grid has few cells, and there are few images.
+    // Laws from which it follows that no lane has more rows than a hub takes: a grid has few cells, and there are few
+    // images.
     grids_keep_limits(&grid);
     files_are_read();
     let Ok(feeds) = make_feeds(alloc, grid.columns()) else {

@@ -22,8 +22,8 @@ use std::alloc::Global;
 use std::sync::Wait;
 use std::thread::Threads;
 
-/// Runs a command over its whole input. Nothing is written unless the whole input is taken. The gate is for the workers
-/// of `lanes` and `scan`.
+/// Runs a command over its whole input. It writes nothing unless it accepts the whole input. The gate is for the
+/// workers of `lanes` and `scan`.
 pub fn run<R: Threads + Wait + Sync, S: Source, W: Sink, G: Gate + Sync>(
     rt: &R,
     alloc: Global,
@@ -43,8 +43,8 @@ pub fn run<R: Threads + Wait + Sync, S: Source, W: Sink, G: Gate + Sync>(
     }
 }
 
-/// Runs a command with a buffer before its sink, and at the end writes what waits in the buffer. At first nothing may
-/// wait, and the sink must not be known to have taken bytes.
+/// Runs a command with a buffer in front of its sink, and writes the rest of the buffer at the end. At first the
+/// buffer must be empty, and the sink must not be known to have taken bytes.
 fn run_and_flush<R: Threads + Wait + Sync, S: Source, W: Sink, G: Gate + Sync>(
     rt: &R,
     alloc: Global,
@@ -63,8 +63,8 @@ fn run_and_flush<R: Threads + Wait + Sync, S: Source, W: Sink, G: Gate + Sync>(
     Ok(())
 }
 
-/// Does as `run`, through a buffer before the sink (`Buffered`). If the run or a write fails, what still waits is
-/// dropped. The sink must not have failed, and must not be known to have taken bytes; it is given back.
+/// The same as `run`, through a buffer in front of the sink (`Buffered`). If the run or a write fails, the bytes that
+/// wait are dropped. The sink must not have failed, and must not be known to have taken bytes. The call returns it.
 pub fn run_buffered<R: Threads + Wait + Sync, S: Source, W: Sink, G: Gate + Sync>(
     rt: &R,
     alloc: Global,

@@ -1,4 +1,4 @@
-//! Why a command is refused as a whole.
+//! Why a command refuses its whole input.
 ghost use Rattle.std.specs.Prelude.{Some, ◌≡◌};
 ghost use Rattle.digits_core.specs.Refusals.{refusal_text};
 ghost use Rattle.command_runs.specs.Faults.{bad_grid, command_fault_text, command_refusal_text, failed_write, no_memory, of_answers, of_images, of_live, of_prints, of_records, of_rows, of_sheets};
@@ -13,7 +13,7 @@ use std::alloc::AllocError;
 use std::fmt;
 use thiserror::Error;
 
-/// Why a command as a whole is refused. If a lower layer has a fault of the same name, that says more of it.
+/// Why a command refuses its whole input. The error of the same name in a lower layer says more.
 #[derive(Clone, Copy, Debug, PartialEq, Eq, Error)]
 pub enum CommandFault {
     /// A read of the input failed.
@@ -26,11 +26,11 @@ pub enum CommandFault {
     NoMemory,
     /// The input is longer than `INPUT_LIMIT` of csv_records.
     InputSize,
-    /// The numbers of the grid are wrong together.
+    /// The numbers of the grid do not fit together.
     BadGrid,
-    /// The label at this index, from 0, is the first that cannot be printed, for `SheetFault::LabelKind`.
+    /// The label at this index, from 0, is the first that cannot be printed: `SheetFault::LabelKind`.
     LabelKind(usize),
-    /// The label at this index, from 0, is the first that cannot be printed, for `SheetFault::LabelWidth`.
+    /// The label at this index, from 0, is the first that cannot be printed: `SheetFault::LabelWidth`.
     LabelWidth(usize),
     /// `PbmFault::NotP4`.
     NotP4,
@@ -38,14 +38,14 @@ pub enum CommandFault {
     PbmHeader,
     /// `PbmFault::Truncated`.
     Truncated,
-    /// `PbmFault::PbmSize`, or an image has not the size of the grid.
+    /// `PbmFault::PbmSize`, or the size of an image differs from the grid's.
     PbmSize,
     /// A thread could not be started.
     NoThread,
 }
 
 impl CommandFault {
-    /// The refusal that the line on standard error reports. If it is a record's, its index stands before it.
+    /// The refusal in the line on standard error. For a record, its index comes first.
     pub fn refusal(self) -> Refusal
         ensures { refusal_text result.kind result.place ≡ command_refusal_text self }
     {
@@ -79,7 +79,8 @@ impl fmt::Display for CommandFault {
     }
 }
 
-// A fault of each lower layer, as the command's. specs/Faults has the same tables, which the clauses `from_gives` name.
+// The errors of the lower layers, as errors of the command. specs/Faults has the same tables; the clauses
+// `from_gives` name them.
 
 impl From<AllocError> for CommandFault {
     ghost from_gives = { λ refused command. command ≡ no_memory };

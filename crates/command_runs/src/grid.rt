@@ -6,7 +6,7 @@ ghost use Rattle.command_runs.specs.Grids.{cells_of};
 use command_line::GridOptions;
 use sheet_core::{BadGrid, Grid};
 
-/// The grid of these numbers, if they may stand together.
+/// The grid of these numbers, if they fit together.
 pub fn grid_of(options: GridOptions) -> Result<Grid, BadGrid>
     ensures ok { IfOk result (λ g. g ≡ cells_of options) }
     ensures exact { IsOk result ↔ IsGrid (cells_of options) }

@@ -1,6 +1,6 @@
-//! A run of each command, why it is refused as a whole (`CommandFault`), and laws about what it writes.
+//! Runs each command, has the errors that refuse a whole input (`CommandFault`), and laws about what commands write.
 //!
-//! `tests/using/items.txt` lists what is exported here, and `tests/using/run` fails if the two differ.
+//! `tests/using/items.txt` lists the public items, and `tests/using/run` fails if the two differ.
 #![tactic(auto)]
 
 mod answers;

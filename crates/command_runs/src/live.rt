@@ -1,4 +1,4 @@
-//! An input that is answered as it comes, a line for each record in the order of the records.
+//! Answers an input as it comes, with a line for each record in the order of the records.
 pub mod answering;
 pub mod fault;
 pub mod input;

@@ -1,5 +1,5 @@
-//! Laws about the answers of printed sheets, each the contract of a function that does nothing. laws.rt says of the
-//! commands what these say of sheets.
+//! Laws about the answers of printed sheets. Each is the contract of a function that does nothing. laws.rt states the
+//! same of the commands.
 ghost use Rattle.command_runs.specs.Printed.{PrintedAnswer, ScannedOnce, WrittenAnswer};
 
 use scan_core::{dots_determine, dots_make_row, one_answer};

@@ -1,3 +1,3 @@
-//! Records that are checked: a kind and a text, answered by a line.
+//! Records with a kind and a text, each answered by a line.
 pub mod answer;
 pub mod lines;

@@ -1,4 +1,4 @@
-//! Records that are scanned: a lane, and the widths of a row.
+//! Records with a lane and the widths of a row.
 pub mod feeds;
 mod gather;
 mod short_widths;

@@ -1,4 +1,4 @@
-//! Laws about records and the messages of scanners: each function does nothing, and its contract is the law.
+//! Laws about records and the messages of scanners. Each is the contract of a function that does nothing.
 //! specs/Laws.antt states it; the comment there must agree with the one here.
 ghost use Rattle.csv_records.specs.Laws.{MessagesAreNoRows, UpceAsChecked};
 

@@ -1,5 +1,5 @@
-//! The records of an input: what each means to a command, and the lines that answer those which need no hub.
-//! `tests/using/items.txt` lists what is exported here, and `tests/using/run` fails if the two differ.
+//! The records of an input: what each means to a command, and the answers to those that need no hub.
+//! `tests/using/items.txt` lists the public items, and `tests/using/run` fails if the two differ.
 #![tactic(auto)]
 
 mod check;

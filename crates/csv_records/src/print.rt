@@ -1,4 +1,4 @@
-//! Records that are printed: a kind and a text, which give a label and its line.
+//! Records with a kind and a text, each a label with a line.
 pub mod label_lines;
 mod label_record;
 pub mod labels;

@@ -1,8 +1,8 @@
-//! Bytes into a caller's buffer.
+//! Writes bytes into the caller's buffer.
 ghost use Rattle.std.specs.Prelude.{◌≡◌, ◌+◌, ◌≤◌, length};
 ghost use Rattle.digits_core.specs.Buffers.{pasted};
 
-/// Puts bytes into `out` from `at` on, and says where they end.
+/// Puts bytes into `out` from `at` on, and returns where they end.
 pub fn put_at(bytes: &[u8], at: usize, out: &mut [u8]) -> usize
     requires { at + length bytes.now ≤ length out.old }
     ensures end { result ≡ at + length bytes.now }

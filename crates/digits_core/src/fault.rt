@@ -1,4 +1,4 @@
-//! Why a text of digits is refused.
+//! Why a text is no number.
 ghost use Rattle.std.specs.Prelude.{Some, ◌≡◌};
 ghost use Rattle.digits_core.specs.Faults.{digit_fault_text};
 ghost use Rattle.digits_core.specs.Refusals.{refusal_text};
@@ -6,12 +6,12 @@ ghost use Rattle.digits_core.specs.Refusals.{refusal_text};
 use crate::refusal::{Refusal, RefusalKind};
 use std::fmt;
 
-/// Why a text is no number of the kind that was asked for.
+/// Why a text is no number of the required kind.
 #[derive(Clone, Copy, Debug, PartialEq, Eq)]
 pub enum DigitFault {
-    /// Its length is not one that is taken.
+    /// Its length is not allowed.
     Length,
-    /// The byte at this offset, the first of such, is no ASCII digit.
+    /// The byte at this offset is no ASCII digit. It is the first such byte.
     NotDigit(usize),
     /// Its last digit is not the check digit of those before it.
     CheckDigit,

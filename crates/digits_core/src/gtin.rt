@@ -56,16 +56,16 @@ pub(crate) fn are_zeros(text: &[u8]) -> bool
 }
 
 impl Gtin {
-    /// The GTIN that 8, 12, 13 or 14 ASCII digits show.
+    /// The GTIN of 8, 12, 13 or 14 ASCII digits.
     ///
-    /// Of several faults the first is answered: the length, then the first byte that is no digit,
-    /// then the check digit.
+    /// It tests the length first, then for a byte that is no digit, then the check digit. The first test that fails
+    /// is the error.
     pub fn read(text: &[u8]) -> Result<Gtin, DigitFault>
         ensures ok { IfOk result (λ g. g ≡ padded (digits_of text.now)) }
         ensures taken { OnOk result (gtin_fault text.now ≡ None) }
         ensures refused { IfErr result (λ fault. gtin_fault text.now ≡ Some fault) }
         ensures checked { IfOk result (λ g. IsChecked g) }
-        // Of digits in one of the four lengths, the check digit alone decides.
+        // For digits of one of the four lengths, only the check digit decides.
         ensures decided { IsTrue (is_gtin_length (length text.now)) → AreAsciiDigits text.now
             → (IsOk result ↔ IsChecked (digits_of text.now)) }
     {
@@ -107,7 +107,7 @@ impl Gtin {
         Some(*digits)
     }
 
-    /// The 13 digits, in ASCII, of a GTIN-13, GTIN-12 or GTIN-8: none of a GTIN that needs 14 digits.
+    /// The 13 digits, in ASCII, of a GTIN-13, GTIN-12 or GTIN-8. None if the GTIN needs 14 digits.
     pub fn as13(&self) -> Option<[u8; 13]>
         ensures some { IsSome result ↔ (self.now ≡ padded (drop 1 self.now)) }
         ensures value { IfSome result (λ text. text ≡ ascii_of (drop 1 self.now)) }
@@ -116,7 +116,7 @@ impl Gtin {
         self.last_digits::<13>()
     }
 
-    /// The 12 digits, in ASCII, of a GTIN-12 or GTIN-8: none of a GTIN that needs more digits.
+    /// The 12 digits, in ASCII, of a GTIN-12 or GTIN-8. None if the GTIN needs more digits.
     pub fn as12(&self) -> Option<[u8; 12]>
         ensures some { IsSome result ↔ (self.now ≡ padded (drop 2 self.now)) }
         ensures value { IfSome result (λ text. text ≡ ascii_of (drop 2 self.now)) }
@@ -126,7 +126,7 @@ impl Gtin {
         self.last_digits::<12>()
     }
 
-    /// The 8 digits, in ASCII, of a GTIN-8: none of a GTIN that needs more digits.
+    /// The 8 digits, in ASCII, of a GTIN-8. None if the GTIN needs more digits.
     pub fn as8(&self) -> Option<[u8; 8]>
         ensures some { IsSome result ↔ (self.now ≡ padded (drop 6 self.now)) }
         ensures value { IfSome result (λ text. text ≡ ascii_of (drop 6 self.now)) }

@@ -1,4 +1,4 @@
-//! Laws about the definitions, each the contract of a function that does nothing.
+//! Laws about the definitions. Each is the contract of a function that does nothing.
 ghost use Rattle.digits_core.specs.Laws.{GtinsAreChecked, OneFirstSpelling};
 
 /// A text without a fault shows 14 digits, the last of which is the check digit of the others.
@@ -6,7 +6,7 @@ pub fn gtins_are_checked()
     ensures { GtinsAreChecked }
 {}
 
-/// A GTIN has at most one spelling by the first line of the zero-suppression table that has one.
+/// By the first line of the zero-suppression table that has it, a GTIN has at most one spelling.
 pub fn one_first_spelling()
     ensures { OneFirstSpelling }
 {}

@@ -1,4 +1,4 @@
-//! Check digits and GTINs, and the readers and writers that every layer above shares.
+//! Check digits and GTINs, and the readers and writers that all layers above share.
 #![tactic(auto)]
 
 mod buffer;

@@ -55,7 +55,7 @@ pub(crate) fn is_checked(text: &[u8]) -> bool
     text[last] - b'0' == check_digit(&text[..last])
 }
 
-/// Why a text is not all ASCII digits, if it is not: its first byte that is none.
+/// Why a text does not consist of ASCII digits: its first byte that is none.
 pub fn not_digits(text: &[u8]) -> Option<DigitFault>
     ensures fault { result ≡ not_digits (first_other text.now) }
     ensures digits { IfNone result (AreAsciiDigits text.now) }

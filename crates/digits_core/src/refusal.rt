@@ -1,22 +1,21 @@
-//! The refusals: the one table of their numbers and names, and how they stand in an output line.
+//! All errors: the one table of their numbers and names, and how they appear in an output line.
 ghost use Rattle.std.specs.Prelude.{Some, ◌≡◌};
 ghost use Rattle.digits_core.specs.Refusals.{refusal_text, refusal_words};
 
 use std::fmt;
 
-/// What is refused, each with a number, in this order from 1, and a name of its own. The crate whose fault it is
-/// says more of each.
+/// The kind of an error. Each has a number, from 1 in this order, and a name. The crate that reports it says more.
 #[derive(Clone, Copy, Debug, PartialEq, Eq)]
 pub enum RefusalKind {
-    /// A text of digits has no length that is taken.
+    /// The length of a text of digits is not allowed.
     Length,
-    /// A byte of a text of digits is no digit; its place is that of the first such.
+    /// A byte of a text of digits is no digit. The place is that of the first such byte.
     NotDigit,
     /// The last digit is not the check digit of those before it.
     CheckDigit,
     /// There is no element.
     Empty,
-    /// No AI of the table stands at the place.
+    /// There is no AI of the table at the place.
     UnknownAi,
     /// The value of an AI is too short; in a pair, any wrong length.
     ValueLength,
@@ -24,13 +23,13 @@ pub enum RefusalKind {
     ValueCharacter,
     /// The value's check digit is wrong.
     ValueCheckDigit,
-    /// There is no such day or time as the value names.
+    /// The value names a day or a time that does not exist.
     ValueDate,
     /// The value is longer than its greatest length.
     MissingSeparator,
     /// An element string has more than 192 bytes.
     TooLong,
-    /// Elements have more characters than one symbol may print.
+    /// Elements have more characters than one symbol can have.
     TooManyCharacters,
     /// The check character of a Code 128 symbol is wrong.
     CheckCharacter,
@@ -40,7 +39,7 @@ pub enum RefusalKind {
     FunctionCharacter,
     /// A SHIFT has no value 0 to 95 after it.
     CodeSet,
-    /// Widths are more than 65,535 dots together.
+    /// Widths have a sum above 65,535 dots.
     TooWide,
     /// Widths are no row.
     BadRuns,
@@ -64,13 +63,13 @@ pub enum RefusalKind {
     LabelWidth,
     /// An image does not begin with `P4`.
     NotP4,
-    /// The header of an image is none.
+    /// An image has no valid header.
     PbmHeader,
     /// The input ends within an image.
     Truncated,
     /// The size of an image, or the number of images, is outside the limits.
     PbmSize,
-    /// A delivery is of no lane, or was taken in before.
+    /// The lane of a delivery does not exist, or the delivery came before.
     Stranger,
     /// A number of lanes, of workers, of jobs or of tickets is outside the limits.
     BadCount,
@@ -84,17 +83,17 @@ pub enum RefusalKind {
     ReadFault,
     /// A write failed.
     WriteFault,
-    /// A record has not two fields.
+    /// A record does not have two fields.
     Csv,
     /// There is no such kind of text.
     Kind,
     /// There is no such lane.
     BadLane,
-    /// The words are not those of a command, or a year is no reference year.
+    /// The arguments are not those of a command, or a year is no reference year.
     Words,
-    /// A growth was refused.
+    /// Memory was refused.
     NoMemory,
-    /// An input, or a line of it, has more bytes than are read.
+    /// An input, or a line of it, is too long.
     InputSize,
 }
 
@@ -161,12 +160,12 @@ impl fmt::Display for RefusalKind {
     }
 }
 
-/// A refusal, and its place if it has one.
+/// An error, and its place if it has one.
 #[derive(Clone, Copy, Debug, PartialEq, Eq)]
 pub struct Refusal {
     /// What is refused.
     pub kind: RefusalKind,
-    /// An offset or an index, as the fault says.
+    /// An offset or an index, as the kind of error says.
     pub place: Option<usize>,
 }
 

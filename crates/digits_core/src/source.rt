@@ -1,4 +1,4 @@
-//! Readers that tell their bytes, and whether they have failed.
+//! Readers that report which bytes they have, and whether they have failed.
 ghost use Rattle.std.specs.Prelude.{◌≡◌, ◌↔◌, ◌≤◌, ℕ, List, Option, Bool, true, false, length, IfOk, OnOk, OnErr, IsErr, IsErrOf, IsTrue, Some};
 ghost use Rattle.std.specs.Io.KnownBytes.{ReadConsumes};
 ghost use Rattle.digits_core.specs.Faults.{input_fault_text};
@@ -9,19 +9,19 @@ use crate::refusal::{Refusal, RefusalKind};
 use std::alloc::Global;
 use std::fmt;
 
-/// A read or a write failed. What it was asked of has failed from then on.
+/// A read or a write failed. The reader or the writer has failed from then on.
 #[derive(Clone, Copy, Debug, PartialEq, Eq)]
 pub struct Failed;
 
-/// A reader that knows what it will still give and whether it has failed.
+/// A reader that knows which bytes it still has and whether it has failed.
 pub trait Source {
     // The bytes that reads will give from here on, if they are known.
     ghost left: { Self → Option (List ℕ) };
     // An `Err` sets it for good, and nothing else does.
     ghost failed: { Self → Bool };
 
-    /// Reads at most as many bytes as `buf` has, into its front, and says how many; 0 into a buffer
-    /// that is not empty is the end. An interruption is a failure, and after a failure each read is one.
+    /// Reads into the front of `buf` and returns how many bytes. 0 is the end, unless `buf` is empty. An interruption
+    /// is a failure. After a failure, every further read fails.
     fn read(&mut self, buf: &mut [u8]) -> Result<usize, Failed>
         ensures bound { IfOk result (λ n. n ≤ length buf.new) }
         ensures bytes { ReadConsumes (left self.old) (left self.new) result buf.new }
@@ -30,17 +30,17 @@ pub trait Source {
         ensures again { IsTrue (failed self.old) → IsErr result };
 }
 
-// How many bytes are asked for at a time.
+// How many bytes it reads at a time.
 const CHUNK: usize = 65_536;
 
-/// Why an input was not read whole.
+/// Why an input could not be read to its end.
 #[derive(Clone, Copy, Debug, PartialEq, Eq)]
 pub enum InputFault {
     /// A read failed.
     ReadFault,
     /// It has more bytes than the limit.
     InputSize,
-    /// A growth was refused.
+    /// Memory was refused.
     NoMemory,
 }
 
@@ -66,8 +66,8 @@ impl fmt::Display for InputFault {
     }
 }
 
-/// All that a source still gives, at most `limit` bytes. The read that goes past the limit is the
-/// last one, so that an endless source ends the call too.
+/// All bytes that a source still has, at most `limit`. It stops after the read that exceeds the limit, so the call
+/// ends even if the source is endless.
 pub fn read_all<S: Source>(
     alloc: Global,
     source: &mut S,

@@ -1,4 +1,4 @@
-//! The source over any reader, and the sink over any writer.
+//! A source made of any reader, and a sink made of any writer.
 ghost use Rattle.std.specs.Prelude.{◌≡◌, false, true};
 
 use crate::sink::Sink;
@@ -6,18 +6,18 @@ use crate::source::{Failed, Source};
 use std::io::{Read, Write};
 use std::marker::Model;
 
-/// A reader or a writer, and whether it has failed. After a failure it is not called again.
+/// A reader or a writer, and whether it has failed. After a failure it gets no further calls.
 #[derive(Drop)]
 pub struct Tracked<T> {
     inner: T,
     has_failed: bool,
 }
 
-/// A source over any reader. An interruption is a failure, and a failed one is not read again.
+/// A source made of any reader. An interruption is a failure. After a failure, the reader is not read again.
 pub type FromReader<R> = Tracked<R>;
 
-/// A sink over any writer. An interruption is a failure, and so is a write that takes nothing of a
-/// piece that has bytes. A failed one is not written to again.
+/// A sink made of any writer. An interruption is a failure, and so is a write that takes none of one or more bytes.
+/// After a failure, the writer gets no more bytes.
 pub type ToWriter<W> = Tracked<W>;
 
 impl<T> Model for Tracked<T> {
@@ -39,7 +39,7 @@ impl<T> Tracked<T> {
         }
     }
 
-    /// Keeps that it has failed.
+    /// Remembers that it has failed.
     fn fail(&mut self) -> Failed
         ensures { self.new ≡ record { inner = self.old.inner; has_failed = true } }
     {

@@ -28,8 +28,8 @@ fn expanded(six: [u8; 6], check: u8) -> [u8; 12]
     }
 }
 
-/// The GTIN-12 that the six digits and the check digit of a UPC-E stand for, all in ASCII: none where
-/// the check digit is wrong. Every spelling of a number is taken.
+/// The GTIN-12 for the six digits and the check digit of a UPC-E, all in ASCII. None if the check digit is wrong. It
+/// accepts every spelling of a number.
 pub fn upce_expand(six: [u8; 6], check: u8) -> Option<Gtin>
     requires six { AreAsciiDigits six }
     requires low { 48 ≤ check }
@@ -40,7 +40,7 @@ pub fn upce_expand(six: [u8; 6], check: u8) -> Option<Gtin>
     Gtin::read(&expanded(six, check)).ok()
 }
 
-/// Whether the digits of a GTIN-12 are as the table's first line has them.
+/// Whether the digits of a GTIN-12 fit the first line of the table.
 fn is_by_first_line(digits: &[u8; 12]) -> bool
     ensures { IsTrue result ↔ ((slice_index digits.now 3 ≤ 50)
         × (list_all (λ byte. byte == 48) (slice_range digits.now 4 8) ≡ true)) }
@@ -48,7 +48,7 @@ fn is_by_first_line(digits: &[u8; 12]) -> bool
     digits[3] <= b'2' && are_zeros(&digits[4..8])
 }
 
-/// Whether the digits of a GTIN-12 are as the table's last line has them.
+/// Whether the digits of a GTIN-12 fit the last line of the table.
 fn is_by_last_line(digits: &[u8; 12]) -> bool
     ensures { IsTrue result ↔ ((53 ≤ slice_index digits.now 10)
         × (list_all (λ byte. byte == 48) (slice_range digits.now 6 10) ≡ true)) }
@@ -82,8 +82,8 @@ fn suppressed(digits: [u8; 12]) -> Option<[u8; 6]>
     None
 }
 
-/// The six digits and the check digit, in ASCII, that a UPC-E of this GTIN carries: by the first line of
-/// the zero-suppression table that has it, and none if no line has.
+/// The six digits and the check digit of the UPC-E for this GTIN, in ASCII, by the first line of the zero-suppression
+/// table that has it. None if no line has it.
 pub fn upce_suppress(gtin: &Gtin) -> Option<([u8; 6], u8)>
     ensures digits { IfSome result (λ spelled. AreAsciiDigits spelled.0) }
     ensures check { IfSome result (λ spelled. (48 ≤ spelled.1) × (spelled.1 < 58)) }

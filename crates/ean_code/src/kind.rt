@@ -10,7 +10,7 @@ use crate::symbologies::{ean8, ean13, itf14, upce};
 /// A kind of symbol that shows a GTIN.
 #[derive(Clone, Copy, Debug, PartialEq, Eq)]
 pub enum Kind {
-    /// EAN-13, and UPC-A as one.
+    /// EAN-13, which includes UPC-A.
     Ean13,
     /// EAN-8.
     Ean8,
@@ -47,7 +47,7 @@ impl Kind {
         }
     }
 
-    /// What a reader sends before the text of its symbols (GS1 General Specifications, section 5.1.3).
+    /// The identifier that a reader sends before the text of its symbols (GS1 General Specifications, section 5.1.3).
     pub fn identifier(self) -> &'static str
         ensures { result.now ≡ kind_identifier self }
     {
@@ -59,7 +59,7 @@ impl Kind {
         }
     }
 
-    /// What its symbol with these modules spells, read forwards alone.
+    /// What its symbol with these modules spells, read only forwards.
     pub fn read(self, modules: &Modules) -> Spelled
         ensures { IsSpelled self modules.now result }
     {

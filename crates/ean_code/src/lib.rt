@@ -1,5 +1,5 @@
-//! EAN-13, EAN-8 and UPC-E symbols (ISO/IEC 15420) and ITF-14 symbols (ISO/IEC 16390): drawn from a GTIN,
-//! and read again from their widths in modules.
+//! Draws EAN-13, EAN-8 and UPC-E symbols (ISO/IEC 15420) and ITF-14 symbols (ISO/IEC 16390) from a GTIN, and reads
+//! them from their widths in modules.
 #![tactic(auto)]
 
 mod drawing;

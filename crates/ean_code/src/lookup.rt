@@ -27,9 +27,9 @@ static CHARACTERS: [u8; 256] = [
     255, 255, 255, 255, 255, 255, 255, 255, 255, 255, 255, 255, 255, 255, 255, 255,
 ];
 
-/// The character of number set A or B with these four widths, packed: each width in modules less one
-/// in two bits, the first space's highest. It is given as whether it is of number set B, and its
-/// digit 0 to 9. None where no character has them (ISO/IEC 15420, symbol character encodation).
+/// The character of number set A or B with these four widths (ISO/IEC 15420, symbol character encodation): whether it
+/// is of number set B, and its digit 0 to 9. None if no character has them. The widths are packed: each width in
+/// modules less one in two bits, the first space's highest.
 pub fn character(packed: u8) -> Option<(bool, u8)>
     ensures found { IfSome result (λ c. (c.1 < 10) × (packed_widths (left_widths (character_of c)) ≡ packed)) }
     ensures none { IfNone result ((c : Bool × ℕ) → c.1 < 10 → packed_widths (left_widths (character_of c)) ≢ packed) }

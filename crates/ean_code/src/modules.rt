@@ -6,9 +6,10 @@ ghost use Rattle.ean_code.specs.Widths.{AreModules};
 use arrayvec::ArrayVec;
 use std::marker::Model;
 
-/// The widths of a symbol's bars and spaces, each 1 to 4 modules, in turn from a bar to a bar.
+/// The widths of a symbol's bars and spaces, each 1 to 4 modules. Bars and spaces alternate, beginning and ending
+/// with a bar.
 ///
-/// They are odd in number and at most 595 (ISO/IEC 15420 and ISO/IEC 15417).
+/// Their number is odd and at most 595 (ISO/IEC 15420 and ISO/IEC 15417).
 #[derive(Clone, Debug, Drop, PartialEq, Eq)]
 pub struct Modules {
     widths: ArrayVec<u8, 595>,
@@ -45,7 +46,7 @@ fn are_modules(widths: &[u8]) -> bool
 }
 
 impl Modules {
-    /// The modules with the widths of this list, which is taken whole.
+    /// The modules with the widths of this list. They take over the list.
     pub fn new(widths: ArrayVec<u8, 595>) -> Modules
         requires { AreModules widths.items }
         ensures { result ≡ widths.items }
@@ -53,8 +54,7 @@ impl Modules {
         Modules { widths }
     }
 
-    /// The modules with these widths: none unless each is 1 to 4, and they are odd in number and at
-    /// most 595.
+    /// The modules with these widths. None unless each is 1 to 4 and their number is odd and at most 595.
     pub fn of(widths: &[u8]) -> Option<Modules>
         ensures value { IfSome result (λ m. m ≡ widths.now) }
         ensures valid { IsSome result ↔ AreModules widths.now }
@@ -75,7 +75,7 @@ impl Modules {
         self.widths.as_slice()
     }
 
-    /// Turns the widths round, as of a symbol that is read from its other end.
+    /// Reverses the widths, to read the symbol from its other end.
     pub fn reverse(&mut self)
         ensures { self.new ≡ reverse self.old }
     {

@@ -1,5 +1,5 @@
-//! The characters of EAN symbols and the number sets that they are drawn in
-//! (ISO/IEC 15420, symbol character encodation).
+//! The characters of EAN symbols, and the number sets in which they are drawn (ISO/IEC 15420, symbol character
+//! encodation).
 ghost use Rattle.std.specs.Prelude.{◌≡◌, ◌≢◌, ◌<◌, ◌≤◌, ◌%◌, List, IfNone, IfSome, length};
 ghost use Rattle.std.specs.List.{flat_map};
 ghost use Rattle.ean_code.specs.Widths.{AreWidths};
@@ -25,8 +25,8 @@ pub(crate) struct Character {
     pub(crate) digit: u8,
 }
 
-/// The widths of the digits 0 to 9 in number set A, four each, the space first. Number set C has them
-/// too, the bar first.
+/// The widths of the digits 0 to 9 in number set A, four each, the space first. The same widths with the bar first
+/// are number set C.
 const SET_A: [[u8; 4]; 10] = [
     [3, 2, 1, 1],
     [2, 2, 2, 1],
@@ -113,7 +113,7 @@ fn character_with(widths: &[u8]) -> Option<Character>
     Some(Character { set, digit })
 }
 
-/// The characters, at most six, that the widths are joined of.
+/// The characters, at most six, of these widths.
 pub(crate) fn characters(widths: &[u8]) -> Option<ArrayVec<Character, 6>>
     requires few { length widths.now ≤ 24 }
     requires fours { length widths.now % 4 ≡ 0 }

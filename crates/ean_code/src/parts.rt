@@ -1,4 +1,4 @@
-//! Tells the parts of symbols apart: guard patterns and characters.
+//! Finds the parts of symbols: guard patterns and characters.
 ghost use Rattle.std.specs.Prelude.{◌≡◌, ◌↔◌, ◌≤◌, ℕ, List, IfNone, IfSome, IsTrue, length, replicate};
 ghost use Rattle.std.specs.List.{list_all};
 ghost use Rattle.ean_code.specs.inner.NumberSets.{character_digits, is_a};

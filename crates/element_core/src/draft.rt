@@ -1,4 +1,4 @@
-//! A canonical text that grows.
+//! Builds a canonical text.
 
 ghost use Rattle.std.specs.Prelude.{◌≡◌, ◌≤◌, ◌++◌, [], length};
 ghost use Rattle.element_core.specs.inner.Growing.{separator_if};
@@ -6,7 +6,7 @@ ghost use Rattle.element_core.specs.inner.Growing.{separator_if};
 use crate::reading::TakesElements;
 use crate::text::{SEPARATOR, Text};
 
-/// A canonical text to which elements are added.
+/// A canonical text that grows by elements.
 #[derive(Drop)]
 pub(crate) struct Draft {
     pub(crate) text: Text,

@@ -19,8 +19,8 @@ pub struct Element {
     pub value: Text,
     /// The day that the value names, if the AI is one of a day.
     pub date: Option<Date>,
-    /// The hours, the minutes and the seconds that the value names, those that are not written being
-    /// 0: none of an AI that is not one of a time. In the profile these are 7003 and 8008.
+    /// The hours, the minutes and the seconds that the value names; those that the value omits are 0. None if the AI
+    /// is not one of a time. In the profile, those of a time are 7003 and 8008.
     pub time: Option<[u8; 3]>,
 }
 
@@ -35,7 +35,7 @@ pub(crate) struct Named {
     pub until: Option<Date>,
 }
 
-/// The days and the time of an element, by one look at the table.
+/// The days and the time of an element, with one look-up in the table.
 pub(crate) fn named_of_element(ai: &[u8], value: &[u8], year: Year) -> Named
     ensures date { IsDay result.date (entry_day year (record { ai = ai.now; value = value.now })) }
     ensures time { result.time ≡ entry_time (record { ai = ai.now; value = value.now }) }

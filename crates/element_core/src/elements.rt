@@ -28,7 +28,7 @@ pub struct Elements {
     year: Year,
 }
 
-// Its size in bytes is paid at each hand-over of an answer.
+// Each hand-over of an answer copies this many bytes.
 const _: () = prove!(size_of::<Elements>() == 208);
 
 impl Model for Elements {
@@ -49,10 +49,10 @@ impl Elements {
     ghost use Rattle.element_core.specs.Shown.{shown_elements};
     ghost use Rattle.element_core.specs.declared.fault.ElementFault.{ElementFault};
 
-    /// The elements of a text, or its first fault (GS1 General Specifications, section 7.8).
+    /// The elements of a text, or its first error (GS1 General Specifications, section 7.8).
     ///
-    /// One separator directly after a value is passed over, after a value of predefined length too,
-    /// and at the end of the text. Of several faults the first from the left is answered.
+    /// One separator is skipped after each value, even after a value of predefined length, and at the end of the
+    /// text. If there are several errors, it reports the first from the left.
     ///
     /// # Examples
     ///
@@ -91,8 +91,8 @@ impl Elements {
         })
     }
 
-    /// The elements of pairs. Of no pairs the fault is `Empty`; else it is that of the first faulty
-    /// pair, with its index, and then `TooLong`.
+    /// The elements of pairs. The error for no pairs is `Empty`. Otherwise it is that of the first faulty pair, with
+    /// its index, or `TooLong`.
     pub fn of_pairs(pairs: &[Pair], year: Year) -> Result<Elements, ElementFault>
         ensures ok { IfOk result (λ es. (es.year ≡ year) × (es.list ≡ entries_of pairs.now)) }
         ensures only { OnOk result (list_fault year (entries_of pairs.now) ≡ None) }

@@ -8,7 +8,7 @@ use crate::first_digits::families_with;
 use crate::part::Part;
 use crate::terms::Terms;
 
-/// AIs that differ in digits alone, each of whose digits lies between those of the least and the greatest.
+/// AIs that differ only in digits. Each digit lies between those of the least and the greatest AI.
 #[derive(Clone, Copy)]
 pub struct AiFamily {
     /// The least AI, in ASCII digits.
@@ -19,7 +19,7 @@ pub struct AiFamily {
     pub parts: &'static [Part],
     /// Whether the first two digits say how long an element is.
     pub predefined: bool,
-    /// Whether the AIs are of the profile.
+    /// Whether the AIs are in the profile.
     pub profile: bool,
 }
 
@@ -35,7 +35,7 @@ fn is_in_family(least: &[u8], greatest: &[u8], text: &[u8]) -> bool
     true
 }
 
-/// The first of the families that has the AI that the text begins with.
+/// The first of the families that has the AI at the front of the text.
 fn first_with(table: &[AiFamily], text: &[u8]) -> Option<AiFamily>
     ensures row { option_map (λ f. row_with f text.now) result ≡ row_by text.now table.now }
     ensures within { IfSome result (λ f. length f.least.now ≤ length text.now) }
@@ -48,14 +48,14 @@ fn first_with(table: &[AiFamily], text: &[u8]) -> Option<AiFamily>
     None
 }
 
-/// Whether the AIs of a family are read by.
+/// Whether the AIs of a family are accepted.
 pub(crate) fn is_read_by(terms: Terms, family: &AiFamily) -> bool
     ensures { result ≡ (terms.every || family.now.profile) }
 {
     terms.every() || family.profile
 }
 
-/// The family of the AI that the text begins with.
+/// The family of the AI at the front of the text.
 pub(crate) fn family_at(text: &[u8]) -> Option<AiFamily>
     ensures row { option_map (λ f. row_with f text.now) result ≡ row_at text.now }
     ensures within { IfSome result (λ f. length f.least.now ≤ length text.now) }

@@ -7,22 +7,22 @@ ghost use Rattle.element_core.specs.Faults.{element_fault_text};
 use digits_core::{Refusal, RefusalKind};
 use std::fmt;
 
-/// The first fault of a text, with the offset in it of the first byte of the element's AI, in bytes;
-/// or of a list of pairs, with the pair's index.
+/// The first error of a text, with the offset of the element's AI in bytes; or of a list of pairs, with the index of
+/// the pair.
 #[derive(Clone, Copy, Debug, PartialEq, Eq)]
 pub enum ElementFault {
     /// There is no element.
     Empty,
-    /// No AI of the table stands here.
+    /// There is no AI of the table here.
     UnknownAi(usize),
-    /// The value is too short, or its length is one between the least and the greatest that it may not
-    /// have; in a pair, any wrong length.
+    /// The value is too short, or its length is between the least and the greatest but not allowed; in a pair, any
+    /// wrong length.
     ValueLength(usize),
     /// The value has a byte that its part does not allow, or breaks another rule of its part.
     ValueCharacter(usize),
-    /// The value's check digit is wrong, or its check characters are.
+    /// The value's check digit or check characters are wrong.
     ValueCheckDigit(usize),
-    /// There is no such day or time as the value names.
+    /// The value names a day or a time that does not exist.
     ValueDate(usize),
     /// The value is longer than its greatest length.
     MissingSeparator(usize),

@@ -1,4 +1,4 @@
-//! The table of AIs, entered by their first two digits. tables/ais makes the arrays of tables/ais.tsv.
+//! An index of the table of AIs by their first two digits. tables/ais makes the arrays from tables/ais.tsv.
 
 ghost use Rattle.std.specs.Prelude.{◌≡◌, ◌≤◌, map, filter, length};
 ghost use Rattle.element_core.specs.Table.{families};

@@ -38,7 +38,7 @@ fn field_length(text: &[u8]) -> usize
     text.len()
 }
 
-/// The text without the one separator that may stand first.
+/// The text without a separator at its front, if there is one.
 fn skip_separator(text: &[u8]) -> &[u8]
     ensures { result.now ≡ after_separator text.now }
 {
@@ -48,7 +48,7 @@ fn skip_separator(text: &[u8]) -> &[u8]
     }
 }
 
-/// How long the value is that stands at the front of the text.
+/// The length of the value at the front of the text.
 fn value_length(family: &AiFamily, text: &[u8]) -> usize
     requires { length family.now.parts.now ≤ 5 }
     ensures { result ≡ length (value_in (row_with family.now []) (field_of text.now)) }
@@ -71,8 +71,8 @@ fn value_of<'a>(family: &AiFamily, text: &'a [u8]) -> (&'a [u8], &'a [u8])
     text.split_at(value_length(family, text))
 }
 
-/// The AI, the value and the rest of a text that begins with an AI of the table; the value need not be
-/// one that the AI may have.
+/// The AI, the value and the rest of a text that begins with an AI of the table. The value need not be valid for the
+/// AI.
 pub(crate) fn front_of(text: &[u8]) -> Option<Front<'_>>
     ensures front { MatchOption result (row_at text.now ≡ None) (λ f. IsFrontOfText text.now f) }
     ensures elements { shown_elements text.now ≡ elements_from result }
@@ -92,7 +92,7 @@ pub(crate) fn front_of(text: &[u8]) -> Option<Front<'_>>
     })
 }
 
-/// The element at the front of a text, or the fault there.
+/// The element at the front of a text, or the error there.
 pub(crate) fn element_at<'a>(
     year: Year,
     place: usize,

@@ -15,7 +15,7 @@ use arrayvec::ArrayString;
 use digits_core::put_at;
 use std::str::from_utf8_unchecked;
 
-/// ASCII bytes as the text that they are.
+/// ASCII bytes as a `str`.
 pub(crate) fn ascii_str(bytes: &[u8]) -> &str
     requires { All (λ b. b < 128) bytes.now }
     ensures { result.now ≡ bytes.now }
@@ -57,8 +57,8 @@ impl TakesElements for ArrayString<288> {
     }
 }
 
-/// Writes the human-readable interpretation of an element string while it is read, in the place of what the line had, or
-/// answers the string's first fault.
+/// Reads an element string and replaces the line by its human-readable interpretation, or returns the string's first
+/// error.
 pub fn write_hri(text: &[u8], year: Year, line: &mut ArrayString<288>) -> Result<(), ElementFault>
     ensures ok { OnOk result ((list : List Entry) × IsElements year text.now list × (line.new.bytes ≡ hri list)) }
     ensures err { IfErr result (λ f. FirstFault year text.now f) }
@@ -67,7 +67,7 @@ pub fn write_hri(text: &[u8], year: Year, line: &mut ArrayString<288>) -> Result
     read_elements(text, year, line)
 }
 
-/// Writes the line of the elements that stand in a text, in the place of what the line had.
+/// Replaces the line by that of the elements of a text.
 pub(crate) fn write_line(text: &[u8], line: &mut ArrayString<288>)
     requires ascii { AreAscii (shown_elements text.now) }
     requires room { length (hri (shown_elements text.now)) ≤ 288 }
@@ -81,7 +81,7 @@ pub(crate) fn write_line(text: &[u8], line: &mut ArrayString<288>)
     }
 }
 
-/// Puts an element into `out` from `at` on, and says where it ends: its AI in parentheses, then its value.
+/// Puts an element into `out` from `at` on, and returns where it ends: its AI in parentheses, then its value.
 fn put_element(ai: &[u8], value: &[u8], at: usize, out: &mut [u8]) -> usize
     requires { at + length (40 ∷ ai.now ++ (41 ∷ value.now)) ≤ length out.old }
     ensures end { result ≡ at + length (40 ∷ ai.now ++ (41 ∷ value.now)) }
@@ -93,7 +93,7 @@ fn put_element(ai: &[u8], value: &[u8], at: usize, out: &mut [u8]) -> usize
     put_at(value, close, out)
 }
 
-/// The same of the line of the elements that stand in a text.
+/// The same for the line of a text's elements.
 fn put_line_of(text: &[u8], at: usize, out: &mut [u8]) -> usize
     requires { at + length (hri (shown_elements text.now)) ≤ length out.old }
     ensures end { result ≡ at + length (hri (shown_elements text.now)) }
@@ -108,7 +108,7 @@ fn put_line_of(text: &[u8], at: usize, out: &mut [u8]) -> usize
     end
 }
 
-/// How many bytes the line of the elements that stand in a text has.
+/// How many bytes the line of a text's elements has.
 fn line_length(text: &[u8]) -> usize
     requires { length (hri (shown_elements text.now)) ≤ 288 }
     ensures { result ≡ length (hri (shown_elements text.now)) }
@@ -122,8 +122,8 @@ fn line_length(text: &[u8]) -> usize
     count
 }
 
-/// Puts the line of the elements that stand in a text into `out` from `at` on if it has room for it
-/// all, and says how many bytes the line has.
+/// Puts the line of a text's elements into `out` from `at` on if there is room for all of it, and returns how many
+/// bytes the line has.
 pub(crate) fn put_line(text: &[u8], at: usize, out: &mut [u8]) -> usize
     requires short { length text.now ≤ 192 }
     requires least { length (hri (shown_elements text.now)) ≤ 288 }
@@ -135,7 +135,7 @@ pub(crate) fn put_line(text: &[u8], at: usize, out: &mut [u8]) -> usize
 {
     if at <= out.len() {
         let room = out.len() - at;
-        // A line is measured first only if there is little room.
+        // It measures a line first only if there is little room.
         if text.len() + (text.len() + 1) / 4 * 2 <= room || line_length(text) <= room {
             return put_line_of(text, at, out) - at;
         }

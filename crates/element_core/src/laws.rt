@@ -1,4 +1,4 @@
-//! Laws of the definitions: each function does nothing, and its contract is the law.
+//! Laws about the definitions. Each is the contract of a function that does nothing.
 
 ghost use Rattle.element_core.specs.Days.{DayZero, YearWindow};
 ghost use Rattle.element_core.specs.Table.{CountsFirstRows, CountsRows, NoAiBeginsAnother, FirstDigitsDecide, PartsHaveOneLength};
@@ -11,37 +11,37 @@ pub fn no_ai_begins_another()
     ensures { NoAiBeginsAnother }
 {}
 
-/// There are 536 AIs, and 407 of them are of the profile.
+/// There are 536 AIs; 407 of them are in the profile.
 pub fn counts_rows()
     ensures { CountsRows }
 {}
 
-/// The first two digits of an AI say whether its length is predefined.
+/// The first two digits of an AI determine whether its length is predefined.
 pub fn first_digits_decide()
     ensures { FirstDigitsDecide }
 {}
 
-/// A text is one list of elements, or has one first fault, and not both.
+/// A text is one list of elements or has one first error, never both.
 pub fn one_list_or_fault()
     ensures { OneListOrFault }
 {}
 
-/// The canonical text of a list is an element string of the same list, and no longer.
+/// The canonical text of a list is an element string of this list, and the shortest.
 pub fn canonical_reads()
     ensures { CanonicalReads }
 {}
 
-/// Different lists of elements have different pairs, so that the pairs say which elements they are.
+/// Different lists of elements have different pairs, so the pairs determine the elements.
 pub fn pairs_differ()
     ensures { PairsDiffer }
 {}
 
-/// The element of a GTIN is read back from its text, under each reference year.
+/// The element of a GTIN reads back from its text, under each reference year.
 pub fn gtin_reads()
     ensures { GtinReads }
 {}
 
-/// Each text is a list of elements or has a first fault.
+/// Each text is a list of elements or has a first error.
 pub fn each_text()
     ensures { EachText }
 {}
@@ -52,14 +52,14 @@ pub fn reads_pieces()
     ensures { ReadsPieces }
 {}
 
-/// Every part of a value but the last has one length. A part that names a day is the only part of
-/// its value, and has the digits of its rule.
+/// All parts of a value except the last have a fixed length. A part that names a day is the only part of its value,
+/// and has the digits of its rule.
 pub fn parts_have_one_length()
     ensures { PartsHaveOneLength }
 {}
 
-/// The year of two digits is the only one with these last two digits from 49 years before the
-/// reference year to 50 years after it.
+/// A year of two digits means the only year with these last two digits from 49 years before the reference year to 50
+/// years after it.
 pub fn year_window()
     ensures { YearWindow }
 {}
@@ -80,14 +80,14 @@ pub fn timed_elements()
     ensures profile { TimedInProfile }
 {}
 
-/// Each text that was read by the table of the first edition, which has neither AI 7003 nor 8008
-/// and 405 others, is read as the same list.
+/// The table of the first edition had neither AI 7003 nor 8008 nor 405 others. Each text that it read still reads as
+/// the same list.
 pub fn read_as_before()
     ensures lists { ReadAsBefore }
     ensures table { CountsFirstRows }
 {}
 
-/// What is read by the profile is read as the same list by every AI.
+/// A text that the profile accepts reads as the same list with every AI.
 pub fn profile_within()
     ensures { ProfileWithin }
 {}
@@ -97,8 +97,7 @@ pub fn faultless_pairs()
     ensures { FaultlessPairs }
 {}
 
-/// The fault of a pair: its AI, then the length of its value, then what the text of the two would be
-/// refused for.
+/// The error of a pair: first its AI, then the length of its value, then the error of the text of both.
 pub fn pair_faults()
     ensures unknown { UnknownPairs }
     ensures lengths { PairLengths }

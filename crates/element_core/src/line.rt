@@ -19,12 +19,12 @@ use std::fmt::Write;
 /// A line of an answer.
 #[derive(Drop)]
 pub enum Line {
-    /// A word, and after a space what is said.
+    /// A word, a space and the content.
     Said {
         word: &'static str,
         text: ArrayString<288>,
     },
-    /// Why there is nothing to say.
+    /// Why there is no content.
     Refused(Refusal),
 }
 
@@ -99,7 +99,7 @@ impl Line {
     }
 }
 
-/// Appends a word, and the one element of a GTIN in a form: AI 01 and its 14 digits. No line is made of them.
+/// Appends a word, and the one element of a GTIN in a form: AI 01 and its 14 digits. It does so without a `Line`.
 #[inline]
 pub fn push_gtin_element(
     word: &str,
@@ -119,7 +119,7 @@ pub fn push_gtin_element(
     text.push_str(ascii_str(&digits))
 }
 
-/// The line of the GTIN that 8, 12, 13 or 14 digits show, or why they show none.
+/// The line of the GTIN of 8, 12, 13 or 14 digits, or of their error.
 pub fn gtin_line(text: &[u8]) -> Line
     ensures { line_text result ≡ gtin_line text.now }
 {
@@ -129,7 +129,7 @@ pub fn gtin_line(text: &[u8]) -> Line
     }
 }
 
-/// The line of the check digit of 1 to 17 digits that have none yet, or why they have none.
+/// The line of the check digit of 1 to 17 digits that lack it, or of their error.
 pub fn digit_line(text: &[u8]) -> Line
     ensures { IsDigitLine text.now (line_text result) }
 {
@@ -146,8 +146,8 @@ pub fn digit_line(text: &[u8]) -> Line
     }
 }
 
-/// The line of an element string, a word and its elements in a form, or its first fault. The human-readable form is written
-/// while the string is read.
+/// The line of an element string, with a word and its elements in a form, or of its first error. It writes the
+/// human-readable form while it reads the string.
 pub fn elements_line(word: &'static str, form: Form, text: &[u8], year: Year) -> Line
     ensures { IsElementsLine word.now (elements_text form) year text.now (line_text result) }
 {

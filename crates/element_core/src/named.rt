@@ -1,4 +1,4 @@
-//! What a part of a value names by its rule.
+//! The days and times that parts of a value name by their rules.
 
 ghost use Rattle.std.specs.Prelude.{◌≡◌, take, drop, is_some};
 ghost use Rattle.element_core.specs.Days.{IsDay};
@@ -118,7 +118,7 @@ fn names_second_day(rule: Rule, count: usize) -> bool
     matches!(rule, Rule::OneOrTwoDays) && 6 < count
 }
 
-/// Whether there are the days and the time that a text is to name.
+/// Whether the days and the time that a text names exist.
 pub(crate) fn is_named(reference: ReferenceYear, rule: Rule, text: &[u8]) -> bool
     ensures { result ≡ is_named reference rule text.now }
 {

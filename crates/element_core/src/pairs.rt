@@ -1,4 +1,4 @@
-//! Elements that are given as pairs.
+//! Elements given as pairs.
 
 ghost use Rattle.std.specs.Prelude.{◌≡◌, ◌<◌, ◌≤◌, length, None, Some, IfOk, IfErr, IsSome, not, is_some};
 ghost use Rattle.element_core.specs.Table.{predefined_length, row_at};
@@ -10,7 +10,7 @@ use crate::terms::Year;
 use crate::text::Text;
 use crate::value::row_fault;
 
-/// An AI and a value, which need not belong together.
+/// An AI and a value. They need not belong together.
 #[derive(Drop)]
 pub struct Pair {
     /// The AI, in ASCII digits.

@@ -82,7 +82,7 @@ pub enum Rule {
     Media,
     /// It begins with a GS1 Company Prefix, which has four digits at least.
     CompanyPrefix,
-    /// It begins so, and is not of digits alone.
+    /// It begins so, and does not consist of digits alone.
     ModelNumber,
 }
 
@@ -95,7 +95,7 @@ pub struct Part {
     pub least: u8,
     /// How many it has at most.
     pub greatest: u8,
-    /// How many more stand together, if it has more than the least: mostly 1.
+    /// If it has more than the least, how many more bytes are added at a time: mostly 1.
     pub step: u8,
     /// What its last bytes check.
     pub check: Check,

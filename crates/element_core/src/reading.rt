@@ -1,4 +1,4 @@
-//! Element strings read from the left (GS1 General Specifications, section 7.8).
+//! Reads element strings from the left (GS1 General Specifications, section 7.8).
 
 ghost use Rattle.std.specs.Prelude.{◌≡◌, ◌<◌, ◌≤◌, [], ◌∷◌, ◌++◌, IfErr, List, OnOk, is_some};
 ghost use Rattle.element_core.specs.Elements.{Entry, FirstFault, IsElements};
@@ -9,19 +9,19 @@ use crate::fault::ElementFault;
 use crate::front::element_at;
 use crate::terms::Year;
 
-/// Takes the elements of a text, one after another, while they are read.
+/// Takes the elements of a text one after another.
 pub(crate) trait TakesElements {
     // It has taken these elements.
     ghost Holds: { Self → List Entry → Type 0 };
 
-    /// Takes one element more, of an AI whose values have a predefined length or not.
+    /// Takes one more element. Its AI may or may not have values of a predefined length.
     fn take(&mut self, ai: &[u8], value: &[u8], predefined: bool)
         requires next { IsNext Holds self.old (record { ai = ai.now; value = value.now }) }
         requires predefined { predefined ≡ is_some (predefined_length ai.now) }
         ensures { (list : List Entry) → Holds self.old list → Holds self.new (list ++ (record { ai = ai.now; value = value.now } ∷ [])) };
 }
 
-/// Hands the elements of a text to what takes them, or answers the text's first fault.
+/// Hands the elements of a text to the taker, or returns the first error of the text.
 pub(crate) fn read_elements<T: TakesElements>(
     text: &[u8],
     year: Year,

@@ -9,18 +9,18 @@ use crate::part::Part;
 use crate::text::{Text, copied};
 use arrayvec::ArrayVec;
 
-/// An Application Identifier with what its value may be (GS1 General Specifications, section 3.2).
+/// An Application Identifier with its allowed values (GS1 General Specifications, section 3.2).
 #[derive(Drop)]
 pub struct AiRow {
     /// The AI: two to four ASCII digits.
     pub ai: Text,
     /// The parts of its value, one or two.
     pub parts: ArrayVec<Part, 2>,
-    /// Whether its first two digits say how long the element is, so that no separator need follow.
+    /// Whether its first two digits determine the length of the element, so that no separator need follow.
     pub predefined: bool,
 }
 
-/// The row of the AI that the bytes begin with: none if they begin with no AI of the table.
+/// The row of the AI at the front of the bytes. None if there is no AI of the table.
 pub fn ai_row(bytes: &[u8]) -> Option<AiRow>
     ensures { option_map table_row result ≡ profile_row_at bytes.now }
 {

@@ -1,4 +1,4 @@
-//! What a part of a value must be beside its characters.
+//! The rules for parts of a value, apart from their characters.
 
 ghost use Rattle.std.specs.Prelude.{◌≡◌, ◌==◌, ◌||◌, ◌≤◌, ◌<◌, not};
 ghost use Rattle.std.specs.Char.{is_ascii_digit};
@@ -66,7 +66,7 @@ fn has_no_leading_zero(text: &[u8]) -> bool
     }
 }
 
-/// Whether a piece is one of all pieces.
+/// Whether the number of a piece is at most that of all pieces.
 fn is_piece_of_total(text: &[u8]) -> bool
     ensures { result ≡ is_piece_of_total text.now }
 {
@@ -96,7 +96,7 @@ fn is_hex(byte: u8) -> bool
     matches!(byte, b'0'..=b'9' | b'A'..=b'F' | b'a'..=b'f')
 }
 
-/// Whether two hexadecimal digits stand first.
+/// Whether two hexadecimal digits come first.
 fn begins_with_hex(text: &[u8]) -> bool
     ensures { result ≡ begins_with_hex text.now }
 {
@@ -113,7 +113,7 @@ fn is_encoded(byte: u8, rest: &[u8]) -> bool
     byte != b'%' || begins_with_hex(rest)
 }
 
-/// Whether after each `%` stand two hexadecimal digits.
+/// Whether each `%` is followed by two hexadecimal digits.
 fn is_percent_encoded(text: &[u8]) -> bool
     ensures { result ≡ is_percent_encoded text.now }
 {
@@ -133,14 +133,14 @@ fn is_media(text: &[u8]) -> bool
     matches!(kind, 1..=10) || 80 <= kind
 }
 
-/// Whether four digits stand first.
+/// Whether four digits come first.
 fn has_company_prefix(text: &[u8]) -> bool
     ensures { result ≡ has_company_prefix text.now }
 {
     4 <= text.len() && are_digits(&text[..4])
 }
 
-/// Whether a text is as the rule says.
+/// Whether a text obeys the rule.
 pub(crate) fn follows(rule: Rule, text: &[u8]) -> bool
     ensures { result ≡ follows rule text.now }
 {

@@ -1,4 +1,5 @@
-//! The Application Identifiers (GS1 General Specifications, section 3.2). tables/ais makes the lists of tables/ais.tsv.
+//! The Application Identifiers (GS1 General Specifications, section 3.2). tables/ais makes the lists from
+//! tables/ais.tsv.
 
 ghost use Rattle.std.specs.Prelude.{◌≡◌, map};
 ghost use Rattle.element_core.specs.Table.{first_families, last_families};

@@ -1,19 +1,19 @@
-//! What element strings are read by.
+//! The terms by which element strings are read.
 
 ghost use Rattle.std.specs.Prelude.{◌≡◌, ◌≤◌, ◌↔◌, IsSome, IfSome};
 
 use crate::year::ReferenceYear;
 use std::marker::Model;
 
-/// What element strings are read by: the reference year of their dates, and every AI of the GS1 General
-/// Specifications or those of the profile alone.
+/// The terms by which element strings are read: the reference year of dates, and whether every AI of the GS1 General
+/// Specifications is accepted or only those of the profile.
 #[derive(Clone, Copy, Debug, PartialEq, Eq)]
 pub struct Terms {
     year: ReferenceYear,
     every: bool,
 }
 
-/// A reference year alone stands for the profile.
+/// Only a reference year means the profile.
 pub type Year = Terms;
 
 impl Model for Terms {
@@ -29,7 +29,7 @@ impl Model for Terms {
 impl Terms {
     ghost use Rattle.element_core.specs.Terms.{every_ai, profile};
 
-    /// The profile under the year of this number: none outside 1951 to 2149.
+    /// The profile with the reference year of this number. None outside 1951 to 2149.
     pub fn new(number: u16) -> Option<Terms>
         ensures some { IsSome result ↔ ((1951 ≤ number) × (number ≤ 2149)) }
         ensures value { IfSome result (λ year. year ≡ profile number) }
@@ -38,7 +38,7 @@ impl Terms {
         Some(Terms { year, every: false })
     }
 
-    /// Every AI under the same year.
+    /// The same year with every AI.
     pub fn with_every_ai(self) -> Terms
         ensures { result ≡ every_ai self.year }
     {
@@ -48,7 +48,7 @@ impl Terms {
         }
     }
 
-    /// Whether by every AI.
+    /// Whether every AI is accepted.
     pub fn every(self) -> bool
         ensures { result ≡ self.every }
     {

@@ -7,8 +7,7 @@ use arrayvec::ArrayVec;
 /// An element string, or a part of one: at most 192 bytes.
 pub type Text = ArrayVec<u8, 192>;
 
-/// The byte of a text that stands for FNC1 as a separator, ASCII GS
-/// (GS1 General Specifications, section 7.8).
+/// The byte of a text that means FNC1 as a separator, ASCII GS (GS1 General Specifications, section 7.8).
 pub const SEPARATOR: u8 = 29;
 
 /// A text of these bytes.

@@ -51,7 +51,7 @@ fn year_of(eight: &[u8]) -> u16
     100 * u16::from(two_of(eight, 0)) + u16::from(two_of(eight, 2))
 }
 
-/// The day that eight digits name, the year by all its four: none if the day is 00.
+/// The day of eight digits, with a year of four. None if the day is 00.
 pub(crate) fn long_date_of(text: &[u8]) -> Option<Date>
     ensures day { IsDay result (long_day_of text.now) }
     ensures some { is_some result ≡ is_some (long_day_of text.now) }

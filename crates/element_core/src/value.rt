@@ -1,4 +1,4 @@
-//! The tests of an element's value.
+//! Tests the value of an element.
 
 ghost use Rattle.std.specs.Prelude.{◌≡◌, ◌≤◌, [], length, take, drop};
 ghost use Rattle.std.specs.List.{list_all};
@@ -54,7 +54,7 @@ fn belongs(format: PartFormat, b: u8) -> bool
     }
 }
 
-/// Whether the bytes beyond the least are whole steps.
+/// Whether the bytes beyond the least number are whole steps.
 fn has_whole_steps(part: &Part, bytes: &[u8]) -> bool
     ensures { result ≡ has_whole_steps part.now bytes.now }
 {
@@ -81,7 +81,8 @@ fn each_belongs(format: PartFormat, bytes: &[u8]) -> bool
     true
 }
 
-/// Whether each byte belongs to the format: the two that most parts have are tested without asking at each byte which it is.
+/// Whether each byte belongs to the format. It chooses the test once for the two most frequent formats, and for each
+/// byte for the others.
 fn all_belong(format: PartFormat, bytes: &[u8]) -> bool
     ensures { result ≡ list_all (belongs format) bytes.now }
 {
@@ -92,14 +93,14 @@ fn all_belong(format: PartFormat, bytes: &[u8]) -> bool
     }
 }
 
-/// Whether each byte belongs to the part, and the bytes are as its rule says.
+/// Whether each byte belongs to the part, and the bytes obey its rule.
 fn has_characters(part: &Part, bytes: &[u8]) -> bool
     ensures { result ≡ has_characters part.now bytes.now }
 {
     all_belong(part.format, bytes) && follows(part.rule, bytes)
 }
 
-/// Whether there are such days and such a time, if the part names them.
+/// Whether the days and the time that the part names exist.
 fn has_date(year: ReferenceYear, part: &Part, bytes: &[u8]) -> bool
     ensures { result ≡ has_date year part.now bytes.now }
 {
@@ -123,13 +124,13 @@ fn split<'a>(part: &Part, value: &'a [u8]) -> (&'a [u8], &'a [u8])
 /// A test of each part of a value.
 #[derive(Clone, Copy)]
 pub enum PartTest {
-    /// Its length is one that it may have between its least and its greatest.
+    /// Its length is allowed, between its least and its greatest.
     WholeSteps,
-    /// It has the characters that it may have, as its rule says.
+    /// Its characters are allowed and obey its rule.
     Characters,
     /// Its check digit or its check characters are right.
     CheckDigit,
-    /// There are the days and the time that it is to name, under the reference year.
+    /// The days and the time that it names exist, by the reference year.
     Dates(ReferenceYear),
 }
 
@@ -161,7 +162,7 @@ fn each_part(test: &PartTest, parts: &[Part], value: &[u8]) -> bool
     true
 }
 
-/// The first test that a value of a right length fails.
+/// The first test that a value fails whose length is right.
 fn value_fault(
     year: ReferenceYear,
     place: usize,
@@ -206,7 +207,7 @@ pub(crate) fn greatest_length(parts: &[Part]) -> usize
     sum
 }
 
-/// The first test that a value of one part fails, as most have; `too_long` is the fault of one that is too long.
+/// The first test that a value of one part fails; most values have one. `too_long` is the error if it is too long.
 fn part_fault(
     year: ReferenceYear,
     place: usize,
@@ -237,7 +238,7 @@ fn part_fault(
     None
 }
 
-/// The first test that a value fails, its length first; `too_long` is the fault of one that is too long.
+/// The first test that a value fails, beginning with its length. `too_long` is the error if it is too long.
 pub(crate) fn row_fault(
     year: ReferenceYear,
     place: usize,

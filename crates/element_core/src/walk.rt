@@ -1,4 +1,4 @@
-//! Elements one after another, where they stand.
+//! Goes through the elements of a text.
 
 ghost use Rattle.std.specs.Prelude.{◌≡◌, ◌+◌, ◌-◌, ◌≤◌, ◌<◌, IfSome, drop, length, take};
 ghost use Rattle.element_core.specs.Days.{IsDay};
@@ -11,7 +11,7 @@ use crate::front::front_of;
 use crate::terms::Year;
 use jiff::civil::Date;
 
-/// An element where it stands in a text, with the days and the time that it names.
+/// An element in its text, with the days and the time that it names.
 #[derive(Clone, Copy)]
 pub struct Seen<'a> {
     pub ai: &'a [u8],
@@ -20,11 +20,11 @@ pub struct Seen<'a> {
     pub time: Option<[u8; 3]>,
     /// The last day of a period, if it names one.
     pub until: Option<Date>,
-    /// What stands after it and its separator.
+    /// The text after it and its separator.
     pub rest: &'a [u8],
 }
 
-/// The element at the front of a text, if an AI of the table stands there.
+/// The element at the front of a text, if it begins with an AI of the table.
 pub fn first_element(text: &[u8], year: Year) -> Option<Seen<'_>>
     ensures elements { shown_elements text.now ≡ elements_seen result }
     ensures within { IfSome result (λ s. length s.ai.now + length s.value.now + length s.rest.now ≤ length text.now) }

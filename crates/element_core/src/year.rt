@@ -4,7 +4,7 @@ ghost use Rattle.std.specs.Prelude.{◌≡◌, ◌≤◌, ◌↔◌, IsSome, IfS
 
 use std::marker::Model;
 
-/// The year by which the two digits of a date stand for a whole one: 1951 to 2149.
+/// The year that determines the century of dates with two-digit years: 1951 to 2149.
 #[derive(Clone, Copy, Debug, PartialEq, Eq)]
 pub struct ReferenceYear {
     number: u16,
@@ -23,7 +23,7 @@ impl Model for ReferenceYear {
 }
 
 impl ReferenceYear {
-    /// The year of this number: none outside 1951 to 2149.
+    /// The year of this number. None outside 1951 to 2149.
     pub fn new(number: u16) -> Option<ReferenceYear>
         ensures some { IsSome result ↔ ((1951 ≤ number) × (number ≤ 2149)) }
         ensures value { IfSome result (λ year. year ≡ number) }

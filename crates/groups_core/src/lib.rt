@@ -1,5 +1,5 @@
-//! A lane over two streams and a consumer group, as a pure machine: rows and answers that arrive in any order, again,
-//! late or never, and tills that accept an answer by its name and mark.
+//! A lane over two streams and a consumer group, as a state machine: rows and answers that arrive in any order,
+//! twice, late or never, and tills that accept an answer by its name and mark.
 #![tactic(auto)]
 
 mod laws;

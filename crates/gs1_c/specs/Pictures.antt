@@ -54,7 +54,7 @@ AreShownPut shown old new count =
     ⊎ ((0 < length shown.symbols.items + shown.dropped)
     × ArePut (map placed_line_in shown.symbols.items ++ dropped_line shown.dropped ∷ []) old new count)
 
--- ---- what is asked
+-- ---- the arguments
 
 -- the level that a number gives: 0 gives none
 abbrev pub given_level : ℕ → Option ℕ

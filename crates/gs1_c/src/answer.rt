@@ -12,8 +12,8 @@ use digits_core::RefusalKind;
 use element_core::{Form, Year};
 use scan_core::{Found, RunFault, find_widths};
 
-/// Puts the line of what was found in a row, with its elements in a form, or why there is no row. It is written from what was found, since a
-/// struct takes more time.
+/// Puts the line of what was found in a row, with its elements in a form, or why there is no row. It writes the line
+/// without an `Answer`, since filling one takes more time.
 fn put_found(found: &Result<Found, RunFault>, terms: Year, form: Form, out: &mut [u8]) -> usize
     ensures { (line : List ℕ) × IsFoundLine form terms found.now line × IsPut line out.old out.new result }
 {
@@ -23,7 +23,7 @@ fn put_found(found: &Result<Found, RunFault>, terms: Year, form: Form, out: &mut
     }
 }
 
-/// Puts the line of what a row says, given as widths, with its elements in a form.
+/// Puts the line of a row, given as widths, with its elements in a form.
 pub fn put_row(widths: &[u16], year: u16, form: Form, out: &mut [u8]) -> usize
     ensures { (line : List ℕ) × IsRowLine form year widths.now line × IsPut line out.old out.new result }
 {
@@ -33,7 +33,7 @@ pub fn put_row(widths: &[u16], year: u16, form: Form, out: &mut [u8]) -> usize
     put_found(&find_widths(widths), terms, form, out)
 }
 
-/// The same of a row of packed dots.
+/// The same for a row of packed dots.
 pub fn put_dots(bits: &[u8], count: u32, year: u16, form: Form, out: &mut [u8]) -> usize
     ensures { (line : List ℕ) × IsDotsLine form year bits.now count line × IsPut line out.old out.new result }
 {
@@ -42,7 +42,7 @@ pub fn put_dots(bits: &[u8], count: u32, year: u16, form: Form, out: &mut [u8]) 
     answer.put_line(form, out)
 }
 
-/// The same of an element string, with a word in front.
+/// The same for an element string, with a word in front.
 pub fn put_text(word: &[u8], text: &[u8], year: u16, form: Form, out: &mut [u8]) -> usize
     requires { length word.now ≤ 4 }
     ensures { (line : List ℕ) × IsTextLine word.now form year text.now line × IsPut line out.old out.new result }

@@ -1,7 +1,8 @@
-//! The calls that answer the lines of a text, in order. Each returns how many lines it answered, and tells how many bytes they have.
+//! The calls that answer the lines of a text, in order. Each returns how many lines it answered, and reports how many
+//! bytes these have.
 //!
-//! A line ends with a line feed, which a carriage return may stand before; the last one may end with the text. Of more lines than
-//! there are answers the first are answered.
+//! A line ends with a line feed, with or without a carriage return before it; the last line may end with the text. If
+//! there are more lines than answers, the call answers the first ones.
 ghost use Rattle.answer_core.specs.Lines.{AreLinesAnswered};
 ghost use Rattle.answer_core.specs.declared.lines.LineKind.TheVariants as kind;
 ghost use Rattle.gs1_c.specs.Lines.{terms_of};

@@ -117,7 +117,7 @@ fn put_dated(element: &Element, out: &mut [u8]) -> usize
     }
 }
 
-/// Puts the day and the time of the element that a text shows, or why it shows none.
+/// Puts the day and the time of the element that a text shows, or the error of the text.
 pub fn put_date(text: &[u8], year: Year, out: &mut [u8]) -> usize
     ensures { IsPut (date_line_by year (shown_pair text.now) (shown_fault year text.now)) out.old out.new result }
 {

@@ -1,5 +1,5 @@
-//! The calls that lay labels out, as structs that C and other languages share (`struct gs1_article` and what follows it in
-//! gs1.h). Each call returns the number of the error, or 0.
+//! The calls that lay out labels, with structs that C and other languages share (`struct gs1_article` and the
+//! following ones in gs1.h). Each call returns the number of the error, or 0.
 ghost use Rattle.std.specs.Prelude.{◌≡◌, ◌<◌, ◌≤◌, ◌*◌, ◌+◌, ℕ, IfErr, IfOk, length};
 ghost use Rattle.shop_core.specs.Drawings.{IsDrawingOf, IsOfSize};
 ghost use Rattle.gs1_c.specs.Drawn.{AreWritten, IsArticleOf, IsWritten, flag, lent_drawing, lent_part};
@@ -22,24 +22,24 @@ pub struct LentArticle<'a> {
     pub text: &'a [u8],
     pub texts: Texts<'a>,
     pub kind: u32,
-    /// Not 0 if an ITF-14 has a bar above it and one below it.
+    /// Nonzero if an ITF-14 gets bearer bars, one above it and one below it.
     pub bearers: u32,
 }
 
-/// An empty label, its fonts, and how it looks. Lengths are dots unless a name says mm.
+/// An empty label, its fonts, and how it looks. Lengths are in dots unless a name says mm.
 #[repr(C)]
 #[derive(Clone, Copy)]
 pub struct LentLook<'a> {
     pub aside: f64,
     pub above: f64,
     pub dots: f64,
-    /// 0 for the standard's.
+    /// 0 for the module of the standard.
     pub module_mm: f64,
-    /// 0 for the look's.
+    /// 0 for the height of the look.
     pub bars_mm: f64,
     pub width: u16,
     pub height: u16,
-    /// Not 0 if the price is the largest.
+    /// Nonzero if the price is the largest text.
     pub price_first: u32,
     pub fonts: Fonts<'a>,
 }
@@ -52,14 +52,14 @@ pub struct LentPart {
     pub top: u16,
     pub width: u16,
     pub height: u16,
-    /// The text whose letters they are, the first of them, and how many.
+    /// The text that its letters belong to, the index of the first one, and how many they are.
     pub field: u16,
     pub from: u16,
     pub count: u16,
     pub ink: u8,
-    /// 1, an ellipsis follows; 2, bold; 4, struck; or the sum of some of them.
+    /// 1, an ellipsis follows; 2, bold; 4, struck through; or a sum of these.
     pub flags: u8,
-    /// In 1/64 dot: the size of the letters, where they begin, their base line, and the width of the cell of each.
+    /// In 1/64 dot: the size of the letters, where they begin, their baseline, and the width of each letter's cell.
     pub size: u32,
     pub letters_left: u32,
     pub base: u32,
@@ -174,7 +174,7 @@ fn write_parts(parts: &[Part], out: &mut [LentPart])
     }
 }
 
-/// A length that was asked for, if one was.
+/// A length, if the caller asks for one.
 fn asked(length: f64) -> Option<f64> {
     if length == 0.0 { None } else { Some(length) }
 }
@@ -198,7 +198,7 @@ impl<'a> LentLook<'a> {
 }
 
 impl<'a> LentArticle<'a> {
-    /// The article, and the terms that a number says; or the number of the error.
+    /// The article, and the terms that the number means; or the number of the error.
     fn article(&self, year: u16) -> Result<(Article<'a>, Year), u32>
         ensures ok { IfOk result (λ it. IsArticleOf self.now year it.0 it.1) }
         ensures err { IfErr result (λ fault. 0 < fault) }
@@ -220,7 +220,7 @@ impl<'a> LentArticle<'a> {
     }
 }
 
-/// What of an article's label counts for the other labels of its list.
+/// The measures of an article's label that matter for the other labels of its list.
 fn measured(look: &LentLook, article: &Article) -> Result<Measure, LabelFault> {
     let item = Item::of(article, &look.look())?;
     Ok(item.measure(&look.fonts))
@@ -249,7 +249,7 @@ fn drawn(
     draw(&item, &plan, terms, row)
 }
 
-/// What of the label of an article counts for the others of its list.
+/// Computes the measures of an article's label that matter for the other labels of its list.
 #[unsafe(no_mangle)]
 pub extern "C" fn gs1_c_measure(
     look: &LentLook,
@@ -270,7 +270,7 @@ pub extern "C" fn gs1_c_measure(
     }
 }
 
-/// What the labels of a list have in common, if they have these measures.
+/// Computes what the labels of a list have in common from their measures.
 #[unsafe(no_mangle)]
 pub extern "C" fn gs1_c_plan(look: &LentLook, measures: &[Measure], commons: &mut Commons) -> u32 {
     match Commons::of(measures, &look.look()) {
@@ -282,11 +282,11 @@ pub extern "C" fn gs1_c_plan(look: &LentLook, measures: &[Measure], commons: &mu
     }
 }
 
-/// The label of an article: its parts lie on it and apart from each other, its bars are those of the article's symbol, each text is
-/// shown or told to go on, the price is whole, and each row through the bars answers the article, and nothing else. If there is less
-/// room than for all parts, none is written.
+/// Draws the label of an article. Its parts lie on it and do not overlap, and its bars are those of the article's
+/// symbol. It shows each text, or marks that the text goes on. The price is complete. Each row through the bars reads
+/// back as the article and nothing else. If there is not room for all parts, it writes none.
 ///
-/// `row` is memory of 8,192 bytes; what stands there does not matter.
+/// `row` is memory of 8,192 bytes; its content does not matter.
 #[unsafe(no_mangle)]
 pub extern "C" fn gs1_c_draw(
     look: &LentLook,

@@ -17,7 +17,7 @@ use element_core::Year;
 use itoa::Buffer;
 use scan_core::{DotSymbols, SymbolSearch, Symbols, Window, row_or_fault, symbols_are_told};
 
-/// More bytes than a line has: two numbers, an identifier and the elements, with what stands between.
+/// More bytes than any line has: two numbers, an identifier and the elements, with the separators between them.
 const MOST: usize = 400;
 
 /// The line of a symbol.
@@ -35,7 +35,7 @@ fn line_of(window: &Window) -> ArrayVec<u8, MOST>
     line
 }
 
-/// Puts a number and a space into `out` from `at` on, and says where they end.
+/// Puts a number and a space into `out` from `at` on, and returns where they end.
 fn put_number(number: usize, at: usize, out: &mut [u8]) -> usize
     requires { at + 41 ≤ length out.old }
     ensures end { result ≡ at + length (decimal number ++ 32 ∷ []) }
@@ -47,7 +47,7 @@ fn put_number(number: usize, at: usize, out: &mut [u8]) -> usize
     put_at(b" ", space, out)
 }
 
-/// Puts the line of a symbol into `out` from `at` on, which has room for the longest, and says where it ends.
+/// Puts the line of a symbol into `out` from `at` on, and returns where it ends. `out` has room for the longest line.
 fn put_whole(window: &Window, at: usize, out: &mut [u8]) -> usize
     requires { at + 400 ≤ length out.old }
     ensures end { result ≡ at + length (symbol_line window.now) }
@@ -62,9 +62,9 @@ fn put_whole(window: &Window, at: usize, out: &mut [u8]) -> usize
     put_at(b"\n", end, out)
 }
 
-/// Puts the line of a symbol into `out` from `at` on if it has room for it, and says where the line ends.
+/// Puts the line of a symbol into `out` from `at` on if there is room for it, and returns where the line ends.
 ///
-/// The line is made first, which takes longer, and the room for it is no part of its caller's frame.
+/// It makes the line first, which takes longer, and its buffer is not in the caller's stack frame.
 #[inline(never)]
 fn put_made(window: &Window, at: usize, out: &mut [u8]) -> usize
     requires { at + 400 < 2 ^ 64 }
@@ -76,7 +76,7 @@ fn put_made(window: &Window, at: usize, out: &mut [u8]) -> usize
     put_fitting(line_of(window).as_slice(), at, out)
 }
 
-/// The same, in the shorter way if there is room for any line.
+/// The same, without making the line first if there is room for any line.
 fn put_symbol(window: &Window, at: usize, out: &mut [u8]) -> usize
     requires { at + 400 < 2 ^ 64 }
     ensures end { result ≡ at + length (symbol_line window.now) }
@@ -90,8 +90,8 @@ fn put_symbol(window: &Window, at: usize, out: &mut [u8]) -> usize
     put_made(window, at, out)
 }
 
-/// Puts the lines of what is left of a search, as many as there is room for, and says how many bytes all of
-/// them have.
+/// Puts the lines of the symbols that the search still finds, as many as there is room for, and returns how many
+/// bytes all of them have.
 fn put_told<S: SymbolSearch>(search: &mut S, out: &mut [u8]) -> usize
     requires { length (S.rest search.old).runs ≤ 65537 }
     ensures { (ws : List Window) × AreTold (S.rest search.old) ws × ArePut (map symbol_line ws) out.old out.new result }
@@ -103,7 +103,7 @@ fn put_told<S: SymbolSearch>(search: &mut S, out: &mut [u8]) -> usize
     end
 }
 
-/// Puts the lines of the symbols of the row of these widths, or why they are no row.
+/// Puts the lines of the symbols in the row of these widths, or the error of the widths.
 pub fn put_symbols(widths: &[u16], year: Year, out: &mut [u8]) -> usize
     ensures { AreDatedSymbolsPut year widths.now (runs_fault widths.now) out.old out.new result }
 {
@@ -115,7 +115,7 @@ pub fn put_symbols(widths: &[u16], year: Year, out: &mut [u8]) -> usize
     }
 }
 
-/// The same of the row of this many packed dots.
+/// The same for the row of this many packed dots.
 pub fn put_dot_symbols(bits: &[u8], count: u32, year: Year, out: &mut [u8]) -> usize
     ensures { ArePackedSymbolsPut year bits.now count (packed_fault (length bits.now) count) out.old out.new result }
 {

@@ -24,7 +24,7 @@ pub fn kind_numbered(number: u32) -> Option<LabelKind>
     }
 }
 
-/// The label that a text makes as this kind, or why it makes none.
+/// The label of this kind that a text makes, or why it makes none.
 pub fn label_of(kind: LabelKind, text: &[u8], terms: Year) -> Result<Label, Refusal>
     ensures ok { IfOk result (λ label. IsLabelOf terms kind text.now (Ok label)) }
     ensures err { IfErr result (λ r. IsLabelOf terms kind text.now (Err (refusal_text r.kind r.place))) }
@@ -41,7 +41,7 @@ pub fn label_of(kind: LabelKind, text: &[u8], terms: Year) -> Result<Label, Refu
     }
 }
 
-/// Puts the image of a label in a grid of one cell, or why it is not printed.
+/// Puts the image of a label in a grid of one cell, or why it cannot be printed.
 fn put_label(label: &Label, grid: Grid, out: &mut [u8]) -> usize
     requires columns { grid.columns ≡ 1 }
     requires rows { grid.rows ≡ 1 }
@@ -53,7 +53,7 @@ fn put_label(label: &Label, grid: Grid, out: &mut [u8]) -> usize
     }
 }
 
-/// Puts the image of the label that a text makes as this kind, or why it is not printed.
+/// Puts the image of the label of this kind that a text makes, or why it cannot be printed.
 pub fn put_image(kind: LabelKind, text: &[u8], terms: Year, grid: Grid, out: &mut [u8]) -> usize
     requires columns { grid.columns ≡ 1 }
     requires rows { grid.rows ≡ 1 }

@@ -1,12 +1,12 @@
-//! The reader and the checks for programs in C, and for what calls C: each call answers with a line of ASCII
-//! bytes in a buffer of the caller's, and takes no memory.
+//! The functions of the library for C and for all that call C. Each writes its answer, a line of ASCII bytes, into
+//! the caller's buffer, and takes no memory.
 //!
-//! Each call says how many bytes its line has. They stand at the front of `out` if it has room for
-//! all of them; else `out` is as it was, and the number says how much room to bring. A question that is
-//! refused is answered by its refusal: `refused`, a number, a name and, if it has one, a place.
+//! Each function returns how many bytes its line has. If `out` has room for all of them, they are at its front;
+//! otherwise `out` is unchanged, and the number is the buffer size required. An error is a line too: `refused`, a
+//! number, a name and, if it has one, a place.
 //!
-//! A `year` is the reference year of dates, 1951 to 2149. With its highest bit set, every Application Identifier
-//! is read, and else those of the profile. Any other number is `refused 42 Words`.
+//! A `year` is the reference year of dates, 1951 to 2149. If its highest bit is set, the function reads every
+//! Application Identifier, otherwise those of the profile. Any other number is `refused 42 Words`.
 #![tactic(auto)]
 
 ghost use Rattle.std.specs.Prelude.{◌≡◌, [], IsTrue, List, ℕ, codes, length, not};
@@ -60,8 +60,8 @@ use terms::terms_of;
 use titles::title_of;
 use value::gs1_c_read_message;
 
-/// The GTIN, in 14 digits, of its 8, 12, 13 or 14 (GS1 General Specifications, section 7.9), as
-/// `gtin 09501101530003`; or why it is none.
+/// The GTIN of 8, 12, 13 or 14 digits (GS1 General Specifications, section 7.9) with all 14 digits, as
+/// `gtin 09501101530003`; or its error.
 #[unsafe(no_mangle)]
 pub extern "C" fn gs1_c_gtin(text: &[u8], out: &mut [u8]) -> usize
     ensures { IsPut (gtin_line text.now) out.old out.new result }
@@ -69,8 +69,8 @@ pub extern "C" fn gs1_c_gtin(text: &[u8], out: &mut [u8]) -> usize
     put_line(&gtin_line(text), out)
 }
 
-/// The check digit of 1 to 17 digits that have none yet (GS1 General Specifications, section 7.9), as
-/// `digit 3`; or why they have none.
+/// The check digit of 1 to 17 digits that lack it (GS1 General Specifications, section 7.9), as `digit 3`; or their
+/// error.
 #[unsafe(no_mangle)]
 pub extern "C" fn gs1_c_digit(text: &[u8], out: &mut [u8]) -> usize
     ensures { (line : List ℕ) × IsDigitLine text.now line × IsPut line out.old out.new result }
@@ -78,9 +78,9 @@ pub extern "C" fn gs1_c_digit(text: &[u8], out: &mut [u8]) -> usize
     put_line(&digit_line(text), out)
 }
 
-/// The elements of an element string, in which byte 29 is the separator
-/// (GS1 General Specifications, section 7.8), as `hri (10)AB(17)261231`; or its first fault. A date is
-/// read by the reference year, 1951 to 2149; any other year is `refused 42 Words`.
+/// The elements of an element string, in which byte 29 is the separator (GS1 General Specifications, section 7.8), as
+/// `hri (10)AB(17)261231`; or its first error. Dates follow the reference year, 1951 to 2149; any other year is
+/// `refused 42 Words`.
 #[unsafe(no_mangle)]
 pub extern "C" fn gs1_c_text(text: &[u8], year: u16, out: &mut [u8]) -> usize
     ensures { (line : List ℕ) × IsTextLine (codes "hri") Form.HumanReadable year text.now line × IsPut line out.old out.new result }
@@ -88,9 +88,9 @@ pub extern "C" fn gs1_c_text(text: &[u8], year: u16, out: &mut [u8]) -> usize
     put_text(b"hri", text, year, Form::HumanReadable, out)
 }
 
-/// What a row says, given as the widths of its runs in dots, light and dark in turn, light first and
-/// last: the symbology identifier and the elements of its symbol, as `]E0 (01)09501101530003`; or why it
-/// is refused. A date is read by the reference year, 1951 to 2149; any other year is
+/// Reads a row, given as the widths of its runs in dots. Light and dark alternate; the first and the last run are
+/// light. The line has the symbology identifier and the elements of the row's symbol, as `]E0 (01)09501101530003`; or
+/// the reason why the row is refused. Dates follow the reference year, 1951 to 2149; any other year is
 /// `refused 42 Words`.
 #[unsafe(no_mangle)]
 pub extern "C" fn gs1_c_row(widths: &[u16], year: u16, out: &mut [u8]) -> usize
@@ -99,8 +99,8 @@ pub extern "C" fn gs1_c_row(widths: &[u16], year: u16, out: &mut [u8]) -> usize
     put_row(widths, year, Form::HumanReadable, out)
 }
 
-/// What a row says, as `gs1_c_row`, with the elements as data: of each its AI, `=` and its value, with a tab
-/// between each two, as `]E0 01=09501101530003`. Different lists of elements have different lines.
+/// Reads a row, as `gs1_c_row`, with the elements as data: for each its AI, `=` and its value, separated by tabs, as
+/// `]E0 01=09501101530003`. Different lists of elements have different lines.
 #[unsafe(no_mangle)]
 pub extern "C" fn gs1_c_row_elements(widths: &[u16], year: u16, out: &mut [u8]) -> usize
     ensures { (line : List ℕ) × IsRowLine Form.Pairs year widths.now line × IsPut line out.old out.new result }
@@ -108,8 +108,8 @@ pub extern "C" fn gs1_c_row_elements(widths: &[u16], year: u16, out: &mut [u8]) 
     put_row(widths, year, Form::Pairs, out)
 }
 
-/// The elements of an element string, as `gs1_c_text`, as data: of each its AI, `=` and its value, with a tab
-/// between each two, as `data 10=AB<TAB>17=261231`. Different lists of elements have different lines.
+/// The elements of an element string, as `gs1_c_text`, as data: for each its AI, `=` and its value, separated by
+/// tabs, as `data 10=AB<TAB>17=261231`. Different lists of elements have different lines.
 #[unsafe(no_mangle)]
 pub extern "C" fn gs1_c_text_elements(text: &[u8], year: u16, out: &mut [u8]) -> usize
     ensures { (line : List ℕ) × IsTextLine (codes "data") Form.Pairs year text.now line × IsPut line out.old out.new result }
@@ -117,10 +117,11 @@ pub extern "C" fn gs1_c_text_elements(text: &[u8], year: u16, out: &mut [u8]) ->
     put_text(b"data", text, year, Form::Pairs, out)
 }
 
-/// The day and the time that an element names, given as its AI, `=` and its value, as `gs1_c_row_elements` has
-/// it: `date 2026-12-31` of `17=261231`, `date 2026-12-31 23:59:00` of `7003=2612312359`, and `none` of an AI
-/// that has no date (GS1 General Specifications, section 7.12). Day 00 is the last of its month. An element that
-/// is none is refused by its first fault, at place 0, and any year but 1951 to 2149 is `refused 42 Words`.
+/// The day and the time of an element (GS1 General Specifications, section 7.12). The element is its AI, `=` and its
+/// value, as `gs1_c_row_elements` writes it. The line is `date 2026-12-31` for `17=261231`,
+/// `date 2026-12-31 23:59:00` for `7003=2612312359`, and `none` for an AI that has no date. Day 00 is the last day of
+/// its month. If the text is no element, the line is its first error, at place 0. Any year except 1951 to 2149 is
+/// `refused 42 Words`.
 #[unsafe(no_mangle)]
 pub extern "C" fn gs1_c_date(text: &[u8], year: u16, out: &mut [u8]) -> usize
     ensures { (line : List ℕ) × IsDateLine year text.now line × IsPut line out.old out.new result }
@@ -131,14 +132,18 @@ pub extern "C" fn gs1_c_date(text: &[u8], year: u16, out: &mut [u8]) -> usize
     put_date(text, terms, out)
 }
 
-/// What a text says that a scanner sends: a symbology identifier (ISO/IEC 15424), and behind it the digits of a
-/// GTIN (`]E0` 12 or 13, or the 8 of a UPC-E; `]E4` 8; `]I1` 14), an element string in which byte 29 or `^` is the
-/// separator (`]C1`, `]e0`, `]d2`, `]Q3`, `]J1`), or a GS1 Digital Link (`]Q1`, `]d1`). Without an identifier it is an
-/// element string where it begins with a separator, a GTIN where it begins with eight digits, and a Digital Link where
-/// it begins with `http://` or `https://`. The identifier, or `-`, and the elements as data, as
-/// `]C1 10=AB<TAB>17=261231`; or why it is refused, a place being an offset behind the identifier and a separator
-/// there, or in a Digital Link the index of the element. Blanks, tabs and ends of lines at the end are passed over. Any
-/// other text is `refused 40 Kind`, and a year that is no reference year `refused 42 Words` before that.
+/// Reads the text that a scanner sends: a symbology identifier (ISO/IEC 15424), and behind it
+/// - the digits of a GTIN: `]E0` 12 or 13, or the 8 of a UPC-E; `]E4` 8; `]I1` 14;
+/// - an element string in which byte 29 or `^` is the separator: `]C1`, `]e0`, `]d2`, `]Q3`, `]J1`;
+/// - a GS1 Digital Link: `]Q1`, `]d1`.
+///
+/// Without an identifier it is an element string if it begins with a separator, a GTIN if it begins with eight
+/// digits, and a Digital Link if it begins with `http://` or `https://`. Any other text is `refused 40 Kind`. Before
+/// that, a year that is no reference year is `refused 42 Words`.
+///
+/// The line has the identifier, or `-`, and the elements as data, as `]C1 10=AB<TAB>17=261231`; or the error. The
+/// place of an error is an offset behind the identifier and a separator there; in a Digital Link it is the index of
+/// the element. Blanks, tabs and line ends at the end are ignored.
 #[unsafe(no_mangle)]
 pub extern "C" fn gs1_c_scan(text: &[u8], year: u16, out: &mut [u8]) -> usize
     ensures { (line : List ℕ) × IsScanLine year text.now line × IsPut line out.old out.new result }
@@ -148,13 +153,13 @@ pub extern "C" fn gs1_c_scan(text: &[u8], year: u16, out: &mut [u8]) -> usize
     answer.put_line(Form::Pairs, out)
 }
 
-/// Every symbol of a row, given as `gs1_c_row` takes it: of each window of its runs that begins and ends
-/// with a light run and is read as a row, from the left, a line of its first run, how many runs it has and
-/// what `gs1_c_row` says of them, as `0 61 ]E0 (01)09501101530003`, each with a line feed at its end. A row
-/// with no symbol has no line.
+/// Finds every symbol of a row, given as `gs1_c_row` takes it. A symbol is a window of the row's runs that begins and
+/// ends with a light run and is read as a row. There is a line for each, from left to right, with the index of its
+/// first run, the number of its runs and what `gs1_c_row` answers for them, as `0 61 ]E0 (01)09501101530003`. Each
+/// line ends with a line feed. A row without a symbol has no line.
 ///
-/// The count is that of all lines. Those stand at the front of `out`, from the left, that it has room for:
-/// each whole or not at all, and behind them it is as it was.
+/// The return value is the size of all lines. Those that `out` has room for are at its front, from the left, each
+/// whole or not at all; the bytes behind them are unchanged.
 #[unsafe(no_mangle)]
 pub extern "C" fn gs1_c_find(widths: &[u16], year: u16, out: &mut [u8]) -> usize
     ensures { AreSymbolsPut year widths.now out.old out.new result }
@@ -165,9 +170,9 @@ pub extern "C" fn gs1_c_find(widths: &[u16], year: u16, out: &mut [u8]) -> usize
     put_symbols(widths, terms, out)
 }
 
-/// What a row of `count` packed dots says, as `gs1_c_row` of its widths. A byte has its first dot in its
-/// high bit, and 1 is dark, as in PBM; bits behind the last dot are not looked at. More dots than `bits`
-/// has are `refused 18 BadRuns`, and more than 65,535 `refused 17 TooWide`.
+/// Reads a row of `count` packed dots, as `gs1_c_row` reads its widths. The first dot of a byte is its high bit, and
+/// 1 is dark, as in PBM. Bits behind the last dot are ignored. More dots than `bits` has are `refused 18 BadRuns`,
+/// and more than 65,535 `refused 17 TooWide`.
 #[unsafe(no_mangle)]
 pub extern "C" fn gs1_c_dots(bits: &[u8], count: u32, year: u16, out: &mut [u8]) -> usize
     ensures { (line : List ℕ) × IsDotsLine Form.HumanReadable year bits.now count line × IsPut line out.old out.new result }
@@ -175,7 +180,7 @@ pub extern "C" fn gs1_c_dots(bits: &[u8], count: u32, year: u16, out: &mut [u8])
     put_dots(bits, count, year, Form::HumanReadable, out)
 }
 
-/// What a row of packed dots says, as `gs1_c_dots`, with the elements as data, as in `gs1_c_row_elements`.
+/// Reads a row of packed dots, as `gs1_c_dots`, with the elements as data, as in `gs1_c_row_elements`.
 #[unsafe(no_mangle)]
 pub extern "C" fn gs1_c_dots_elements(bits: &[u8], count: u32, year: u16, out: &mut [u8]) -> usize
     ensures { (line : List ℕ) × IsDotsLine Form.Pairs year bits.now count line × IsPut line out.old out.new result }
@@ -183,10 +188,11 @@ pub extern "C" fn gs1_c_dots_elements(bits: &[u8], count: u32, year: u16, out: &
     put_dots(bits, count, year, Form::Pairs, out)
 }
 
-/// Every symbol of a row of `count` packed dots, given as `gs1_c_dots` takes them: the lines of `gs1_c_find` of the
-/// row's widths. More dots than `bits` has are `refused 18 BadRuns`, and more than 65,535 `refused 17 TooWide`.
+/// Finds every symbol of a row of `count` packed dots, given as `gs1_c_dots` takes them. The lines are those of
+/// `gs1_c_find` for the row's widths. More dots than `bits` has are `refused 18 BadRuns`, and more than 65,535
+/// `refused 17 TooWide`.
 ///
-/// The count is that of all lines, of which those stand in `out` that it has room for, as with `gs1_c_find`.
+/// The return value is the size of all lines, as for `gs1_c_find`.
 #[unsafe(no_mangle)]
 pub extern "C" fn gs1_c_find_dots(bits: &[u8], count: u32, year: u16, out: &mut [u8]) -> usize
     ensures { AreDotSymbolsPut year bits.now count out.old out.new result }
@@ -197,8 +203,9 @@ pub extern "C" fn gs1_c_find_dots(bits: &[u8], count: u32, year: u16, out: &mut 
     put_dot_symbols(bits, count, terms, out)
 }
 
-/// How many words `gs1_c_picture` takes to read a picture of this size: 6 for each dot of width and height together, and 4 for each
-/// block, of which 8 by 8 dots are one in small pictures and 32 by 32 in large ones. 0 if a side has more than 65,535 dots.
+/// How many words `gs1_c_picture` needs to read a picture of this size: 6 for each dot of the width and of the
+/// height, and 4 for each block. A block has 8 by 8 dots in small pictures and 32 by 32 in large ones. 0 if a side
+/// has more than 65,535 dots.
 #[unsafe(no_mangle)]
 pub extern "C" fn gs1_c_picture_room(width: u32, height: u32) -> usize
     ensures { result ≡ room_count width height }
@@ -209,19 +216,23 @@ pub extern "C" fn gs1_c_picture_room(width: u32, height: u32) -> usize
     words_for(width as u16, height as u16)
 }
 
-/// Every symbol that a picture shows, given as grey values, 0 black, of `height` rows of `width` dots, each `stride` values
-/// behind the one above. Dots below the level are dark; with the level 0 the picture's own is taken, and symbols are looked for at
-/// any angle. The line of a symbol has the x and the y of its four corners, clockwise from the upper left one, in 1/256 dot from the
-/// picture's upper left; how many rows show it; and what `gs1_c_row_elements` says of these, as
-/// `38400 20480 111360 20480 111360 51200 38400 51200 120 ]E0 01=09501101530003`, with a line feed. They stand in the order of
-/// reading. If there was no room for more symbols a line `dropped 3` says how many were left out, at least.
+/// Finds the symbols of a picture, given as grey values, 0 black, in `height` rows of `width` dots. Each row begins
+/// `stride` values behind the one above. Dots below the level are dark. With level 0 it chooses the level itself and
+/// looks for symbols at any angle.
 ///
-/// A picture without a symbol is answered by `none`, or by the refusal of the row that came furthest, as `refused 21 QuietZone`. A
-/// side of more than 65,535 dots is `refused 17 TooWide`; a stride below the width, or fewer values than the rows take,
-/// `refused 18 BadRuns`; fewer words than `gs1_c_picture_room` says, or fewer than `width + 2` widths, `refused 43 NoMemory`.
+/// The line of a symbol has the x and the y of its four corners, clockwise from the upper left, in 1/256 dot from the
+/// upper left of the picture; then how many rows show it, and what `gs1_c_row_elements` answers for these, as
+/// `38400 20480 111360 20480 111360 51200 38400 51200 120 ]E0 01=09501101530003`. Each line ends with a line feed.
+/// The lines are in reading order. If there was no room for more symbols, a line such as `dropped 3` has the least
+/// number that was left out.
 ///
-/// The count is that of all lines, of which those stand in `out` that it has room for, as with `gs1_c_find`. The words and the
-/// widths are memory to read in: what stands there does not matter.
+/// If the picture shows no symbol, the line is `none`, or the refusal of the row that came furthest, as
+/// `refused 21 QuietZone`. A side of more than 65,535 dots is `refused 17 TooWide`. A stride below the width, or
+/// fewer values than the rows have, is `refused 18 BadRuns`. Fewer words than `gs1_c_picture_room` returns, or fewer
+/// than `width + 2` widths, are `refused 43 NoMemory`.
+///
+/// The return value is the size of all lines, as for `gs1_c_find`. The words and the widths are working memory; their
+/// content does not matter.
 #[unsafe(no_mangle)]
 pub extern "C" fn gs1_c_picture(
     grey: &[u8],
@@ -247,13 +258,13 @@ pub extern "C" fn gs1_c_picture(
     put_picture(grey, width, height, stride, reading, words, widths, out)
 }
 
-/// The image of a label as PBM (netpbm, pbm(5)), of `width` by `height` dots, with modules of
-/// `module_dots` dots; or why it is not printed. The kinds are, of a GTIN, 0 EAN-13, 1 UPC-A, 2 EAN-8,
-/// 3 UPC-E and 5 ITF-14, and of an element string 4 GS1-128.
+/// The image of a label as PBM (netpbm, pbm(5)), of `width` by `height` dots, with modules of `module_dots` dots; or
+/// why it cannot be printed. The kinds for a GTIN are 0 EAN-13, 1 UPC-A, 2 EAN-8, 3 UPC-E and 5 ITF-14; the kind for
+/// an element string is 4 GS1-128.
 ///
-/// A module is 1 to 8 dots, the width 1 to 4,096 and the height more than two modules and at most 1,024;
-/// else `refused 25 BadGrid`. The symbol begins after its nominal left quiet zone, and its bars stand in
-/// all rows but a module's above and below.
+/// A module has 1 to 8 dots. The width is 1 to 4,096. The height is more than two modules and at most 1,024.
+/// Otherwise the answer is `refused 25 BadGrid`. The symbol begins after its nominal left quiet zone. Its bars fill
+/// all rows except one module's height at the top and at the bottom.
 #[unsafe(no_mangle)]
 pub extern "C" fn gs1_c_label(
     kind: u32,
@@ -279,12 +290,13 @@ pub extern "C" fn gs1_c_label(
     }
 }
 
-/// The symbol of a label in modules, for programs that draw it: `symbol`, what stands under the bars, the nominal quiet zones left and
-/// right, and a digit for the width of each run, a bar first and last, as
+/// The symbol of a label in modules, for programs that draw it. The line has `symbol`, the text under the bars, the
+/// nominal quiet zones on the left and on the right, and a digit for the width of each run, a bar first and last, as
 /// `symbol 96385074 7 7 1111412...`; or why there is none. The kinds are those of `gs1_c_label`.
 ///
-/// Under the bars stand the digits of the number as its kind writes them, of a UPC-E all eight, and of an element string its
-/// elements with each AI in parentheses (GS1 General Specifications, sections 4.14 and 5.2 to 5.4).
+/// The text under the bars has the digits of the number as its kind writes them, all eight for a UPC-E. For an
+/// element string it has the elements with each AI in parentheses (GS1 General Specifications, sections 4.14 and 5.2
+/// to 5.4).
 #[unsafe(no_mangle)]
 pub extern "C" fn gs1_c_symbol(kind: u32, text: &[u8], year: u16, out: &mut [u8]) -> usize
     ensures { (line : List ℕ) × IsSymbolLineBy kind year text.now line × IsPut line out.old out.new result }
@@ -296,7 +308,8 @@ pub extern "C" fn gs1_c_symbol(kind: u32, text: &[u8], year: u16, out: &mut [u8]
     }
 }
 
-/// The number of the refusal that a line says, as 2 of `refused 2 NotDigit 12`; 0 of a line that does not begin with `refused` and a space.
+/// The number of the error in a line, as 2 for `refused 2 NotDigit 12`; 0 for a line that does not begin with
+/// `refused` and a space.
 #[unsafe(no_mangle)]
 pub extern "C" fn gs1_c_status(line: &[u8]) -> u32
     ensures { IsStatus line.now result }
@@ -304,8 +317,9 @@ pub extern "C" fn gs1_c_status(line: &[u8]) -> u32
     status_of(line)
 }
 
-/// Finds the first element that a line of elements as data shows, and says whether it shows one: the first word with an `=`, of which
-/// spaces, tabs and line feeds are the ends. The others stand behind the place's end. If it shows none, the place stays as it was.
+/// Finds the first element in a line of elements as data, and returns whether there is one. It is the first word with
+/// an `=`; words end at spaces, tabs and line feeds. The further elements are behind the `end` of the place. If there
+/// is none, the place is unchanged.
 #[unsafe(no_mangle)]
 pub extern "C" fn gs1_c_next(line: &[u8], place: &mut ElementPlace) -> bool
     ensures some { IsTrue result → IsFirstElement line.now place.new }
@@ -324,8 +338,8 @@ pub extern "C" fn gs1_c_next(line: &[u8], place: &mut ElementPlace) -> bool
     }
 }
 
-/// The data title of an AI, in UTF-8 (GS1 General Specifications, section 3.2), as `BATCH/LOT` of `10`; no bytes if there is no such AI, or
-/// if it has no title.
+/// The data title of an AI, in UTF-8 (GS1 General Specifications, section 3.2), as `BATCH/LOT` for `10`. It has no
+/// bytes if there is no such AI, or if the AI has no title.
 #[unsafe(no_mangle)]
 pub extern "C" fn gs1_c_title(ai: &[u8], out: &mut [u8]) -> usize
     ensures { IsPut (title_of ai.now) out.old out.new result }

@@ -1,4 +1,4 @@
-//! Lines that are made, and put if there is room for them.
+//! Makes lines, and puts them if there is room for them.
 ghost use Rattle.std.specs.Prelude.{◌≡◌, ◌+◌, ◌++◌, ◌<◌, ◌≤◌, ◌^◌, ◌∷◌, [], length};
 ghost use Rattle.std.specs.Fmt.{decimal};
 ghost use Rattle.digits_core.specs.Buffers.{pasted};
@@ -26,7 +26,7 @@ pub fn push_number<const N: usize>(line: &mut ArrayVec<u8, N>, number: usize)
     push(line, b" ");
 }
 
-/// Puts a line into `out` from `at` on if it has room for it, and says where the line ends.
+/// Puts a line into `out` from `at` on if there is room for it, and returns where the line ends.
 pub fn put_fitting(line: &[u8], at: usize, out: &mut [u8]) -> usize
     requires { at + length line.now < 2 ^ 64 }
     ensures end { result ≡ at + length line.now }

@@ -1,11 +1,11 @@
-//! Elements as data, found again in a line.
+//! Finds elements in a line of elements as data.
 ghost use Rattle.std.specs.Prelude.{◌≡◌, ◌≤◌, [], None, IfSome, length};
 ghost use Rattle.gs1_c.specs.Shown.{IsFirstElement, is_between, line_elements};
 ghost use Rattle.gs1_c.specs.inner.Shown.{up_to};
 
 use crate::dates::equals_at;
 
-/// Where an element stands in a line of elements as data.
+/// Where an element is in a line of elements as data.
 #[repr(C)]
 #[derive(Clone, Copy)]
 pub struct ElementPlace {

@@ -13,10 +13,10 @@ use itoa::Buffer;
 use picture_core::{Picture, Reading, Refused, Room, SeenSymbol, Shown, read_picture};
 use scan_core::RunFault;
 
-/// More bytes than a line has: nine numbers, an identifier and the elements, with what stands between.
+/// More bytes than any line has: nine numbers, an identifier and the elements, with the separators between them.
 const MOST: usize = 700;
 
-/// The corners of a symbol, and how many rows say so.
+/// The corners of a symbol, and how many rows show it.
 fn numbers_of(symbol: &SeenSymbol) -> [u32; 9]
     ensures { result ≡ placed_numbers symbol.now }
 {
@@ -34,7 +34,7 @@ fn numbers_of(symbol: &SeenSymbol) -> [u32; 9]
     ]
 }
 
-/// Puts numbers at the end of a line, a space behind each.
+/// Puts numbers at the end of a line, each followed by a space.
 fn push_numbers(line: &mut ArrayVec<u8, MOST>, numbers: &[u32])
     requires { length line.old.items + 41 * length numbers.now ≤ 700 }
     ensures put { line.new.items ≡ line.old.items ++ numbers_text numbers.now }
@@ -59,7 +59,8 @@ fn line_of(symbol: &SeenSymbol) -> ArrayVec<u8, MOST>
     line
 }
 
-/// Puts the line of a symbol, if there is one, into `out` from `at` on if it has room for it, and says where the line ends.
+/// Puts the line of a symbol, if there is one, into `out` from `at` on if there is room for it, and returns where the
+/// line ends.
 fn put_placed(symbol: &Option<SeenSymbol>, at: usize, out: &mut [u8]) -> usize
     requires { at + 700 < 2 ^ 64 }
     ensures end { result ≡ at + length (placed_line_in symbol.now) }
@@ -73,7 +74,7 @@ fn put_placed(symbol: &Option<SeenSymbol>, at: usize, out: &mut [u8]) -> usize
     }
 }
 
-/// Puts the lines of symbols, as many as there is room for, and says how many bytes all of them have.
+/// Puts the lines of symbols, as many as there is room for, and returns how many bytes all of them have.
 fn put_all(symbols: &[Option<SeenSymbol>], out: &mut [u8]) -> usize
     requires { length symbols.now ≤ 192 }
     ensures put { ArePut (map placed_line_in symbols.now) out.old out.new result }
@@ -101,7 +102,7 @@ fn line_of_dropped(dropped: u32) -> ArrayVec<u8, 60>
     line
 }
 
-/// Puts why a picture shows nothing.
+/// Puts the reason why a picture shows nothing.
 fn put_reason(refused: &Option<Refused>, out: &mut [u8]) -> usize
     ensures { IsPut (reason_text refused.now) out.old out.new result }
 {
@@ -130,14 +131,14 @@ fn put_shown(shown: &Shown, out: &mut [u8]) -> usize
     put_fitting(line_of_dropped(shown.dropped).as_slice(), end, out)
 }
 
-/// The level that a number gives.
+/// The level that a number means.
 pub fn given_level(level: u8) -> Option<u8>
     ensures { result ≡ given_level level }
 {
     if level == 0 { None } else { Some(level) }
 }
 
-/// The picture of these values, or why they are none.
+/// The picture of these values, or their error.
 fn picture_of<'a>(
     grey: &'a [u8],
     width: u32,
@@ -158,7 +159,7 @@ fn picture_of<'a>(
     }
 }
 
-/// Puts what a picture shows, or why it is none or cannot be read in this much memory.
+/// Puts what a picture shows, or why it cannot be read in this much memory.
 pub fn put_picture(
     grey: &[u8],
     width: u32,

@@ -1,4 +1,4 @@
-//! The numbers of refusals in lines.
+//! The numbers of errors in lines.
 ghost use Rattle.std.specs.Prelude.{◌≡◌, ◌<◌};
 ghost use Rattle.gs1_c.specs.Status.{IsStatus};
 ghost use Rattle.gs1_c.specs.inner.Status.{number_at_front};
@@ -16,7 +16,7 @@ fn number_at_front(text: &[u8]) -> u32
     }
 }
 
-/// The number of the refusal that a line says, or 0.
+/// The number of the error in a line, or 0.
 pub fn status_of(line: &[u8]) -> u32
     ensures { IsStatus line.now result }
 {

@@ -17,7 +17,7 @@ use digits_core::{Gtin, upce_suppress};
 use element_core::Year;
 use sheet_core::{DrawnSymbol, Label, LabelKind, SheetFault};
 
-/// More bytes than a line has: a word, what stands under the bars, two quiet zones and 595 widths.
+/// More bytes than any line has: a word, the text under the bars, two quiet zones and 595 widths.
 const MOST: usize = 1000;
 
 /// Puts the eight digits of a UPC-E at the end of a line.
@@ -37,7 +37,7 @@ fn push_upce(line: &mut ArrayVec<u8, MOST>, gtin: &Gtin)
     }
 }
 
-/// Puts what stands under the bars of a label at the end of a line.
+/// Puts the text under the bars of a label at the end of a line.
 fn push_under(line: &mut ArrayVec<u8, MOST>, label: &Label)
     requires room { length line.old.items + 288 ≤ 1000 }
     requires drawn { (s : Drawn) × IsDrawn label.now s }
@@ -65,7 +65,7 @@ fn push_widths(line: &mut ArrayVec<u8, MOST>, widths: &[u8])
     }
 }
 
-/// Puts what is drawn, in modules, at the end of a line.
+/// Puts a drawn symbol, in modules, at the end of a line.
 fn push_drawn(line: &mut ArrayVec<u8, MOST>, symbol: &DrawnSymbol)
     requires room { length line.old.items + 700 ≤ 1000 }
     ensures { line.new.items ≡ line.old.items ++ drawn_text symbol.now }
@@ -90,7 +90,7 @@ fn put_drawn(label: &Label, out: &mut [u8]) -> usize
     put(line.as_slice(), out)
 }
 
-/// Puts the line of the symbol of the label that a text makes as this kind, or why there is none.
+/// Puts the line of the symbol of the label of this kind that a text makes, or why there is none.
 pub fn put_symbol(kind: LabelKind, text: &[u8], terms: Year, out: &mut [u8]) -> usize
     ensures { (line : List ℕ) × IsKindSaid IsSymbolLineOf terms kind text.now line × IsPut line out.old out.new result }
 {

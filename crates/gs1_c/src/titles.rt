@@ -3,7 +3,7 @@ ghost use Rattle.std.specs.Prelude.{◌≡◌, map, option_map};
 ghost use Rattle.gs1_c.specs.Titles.{has_ai, title_in, title_of, titles_0_to_2, titles_3, titles_4, titles_7, titles_8_and_9};
 ghost use Rattle.gs1_c.specs.inner.Titles.{titled_of};
 
-/// AIs that differ in their last digit alone, and their title.
+/// AIs that differ only in their last digit, and their title.
 #[derive(Clone, Copy)]
 struct Titled {
     /// All digits but the last.
@@ -297,7 +297,7 @@ fn title_in(rows: &[Titled], ai: &[u8]) -> Option<&'static [u8]>
     None
 }
 
-/// The title of an AI, of no bytes if it has none.
+/// The title of an AI, or no bytes if it has none.
 pub fn title_of(ai: &[u8]) -> &'static [u8]
     ensures { result.now ≡ title_of ai.now }
 {

@@ -1,8 +1,8 @@
-//! The calls that fill an answer of the caller's (`struct gs1_answer` of gs1.h), and the one that writes its line. Each of the
-//! first returns the number of the error, or 0.
+//! The calls that fill an answer of the caller's (`struct gs1_answer` of gs1.h), and the one that writes its line.
+//! The former return the number of the error, or 0.
 //!
-//! A year that is no reference year is error 42 (`Words`). What stands behind the text and the elements of an answer is not
-//! written.
+//! A year that is no reference year is error 42 (`Words`). They write nothing behind the text and the elements of an
+//! answer.
 ghost use Rattle.std.specs.Prelude.{◌≡◌, ◌++◌, drop, length, min, take};
 ghost use Rattle.answer_core.specs.Conflicts.{conflicts};
 ghost use Rattle.answer_core.specs.Formats.{entries_in};
@@ -18,8 +18,8 @@ use answer_core::{Answer, Conflict};
 use digits_core::RefusalKind;
 use element_core::Form;
 
-/// What a text of a scanner says, as `gs1_c_scan` reads it. The symbol of a scanner's `]E0` is a guess: a scanner may send a
-/// UPC-E as the 12 digits of a UPC-A.
+/// Reads a text of a scanner, as `gs1_c_scan`. For `]E0` the kind of symbol is a guess: a scanner may send a UPC-E as
+/// the 12 digits of a UPC-A.
 #[unsafe(no_mangle)]
 pub extern "C" fn gs1_c_read_message(text: &[u8], year: u16, answer: &mut Answer) -> u32
     ensures told { IsAnsweredBy year (λ terms a. IsMessageAnswer terms text.now a) answer.new }
@@ -32,7 +32,7 @@ pub extern "C" fn gs1_c_read_message(text: &[u8], year: u16, answer: &mut Answer
     u32::from(answer.fault)
 }
 
-/// What an element string says, in which byte 29 is the separator.
+/// Reads an element string, in which byte 29 is the separator.
 #[unsafe(no_mangle)]
 pub extern "C" fn gs1_c_read_elements(text: &[u8], year: u16, answer: &mut Answer) -> u32
     ensures told { IsAnsweredBy year (λ terms a. IsStringAnswer terms text.now a) answer.new }
@@ -45,7 +45,7 @@ pub extern "C" fn gs1_c_read_elements(text: &[u8], year: u16, answer: &mut Answe
     u32::from(answer.fault)
 }
 
-/// The GTIN of 8, 12, 13 or 14 digits, as the element of AI 01.
+/// Reads the GTIN of 8, 12, 13 or 14 digits, as the element of AI 01.
 #[unsafe(no_mangle)]
 pub extern "C" fn gs1_c_read_gtin(digits: &[u8], year: u16, answer: &mut Answer) -> u32
     ensures told { IsAnsweredBy year (λ terms a. IsGtinAnswer terms digits.now a) answer.new }
@@ -58,8 +58,8 @@ pub extern "C" fn gs1_c_read_gtin(digits: &[u8], year: u16, answer: &mut Answer)
     u32::from(answer.fault)
 }
 
-/// What a text says as people type, print and paste it, in UTF-8: a printed element string with each AI in parentheses or
-/// brackets, what a scanner sends, an element string with a separator, or a number with blanks and hyphens.
+/// Reads a text as people type, print and paste it, in UTF-8: a printed element string with each AI in parentheses or
+/// brackets, the text of a scanner, an element string with a separator, or a number with blanks and hyphens.
 #[unsafe(no_mangle)]
 pub extern "C" fn gs1_c_read_text(text: &[u8], year: u16, answer: &mut Answer) -> u32
     ensures told { IsAnsweredBy year (λ terms a. IsTextAnswer terms text.now a) answer.new }
@@ -72,7 +72,7 @@ pub extern "C" fn gs1_c_read_text(text: &[u8], year: u16, answer: &mut Answer) -
     u32::from(answer.fault)
 }
 
-/// What a row says, given as the widths of its runs in dots, light first and last. Its symbol is known exactly.
+/// Reads a row, given as the widths of its runs in dots, light first and last. The kind of symbol is known exactly.
 #[unsafe(no_mangle)]
 pub extern "C" fn gs1_c_read_row(widths: &[u16], year: u16, answer: &mut Answer) -> u32
     ensures told { IsAnsweredBy year (λ terms a. IsWidthsAnswer terms widths.now a) answer.new }
@@ -85,7 +85,7 @@ pub extern "C" fn gs1_c_read_row(widths: &[u16], year: u16, answer: &mut Answer)
     u32::from(answer.fault)
 }
 
-/// What a row of `count` packed dots says, as `gs1_c_dots` takes them.
+/// Reads a row of `count` packed dots, as `gs1_c_dots` takes them.
 #[unsafe(no_mangle)]
 pub extern "C" fn gs1_c_read_dots(bits: &[u8], count: u32, year: u16, answer: &mut Answer) -> u32
     ensures told { IsAnsweredBy year (λ terms a. IsDotsAnswer terms bits.now count a) answer.new }
@@ -98,7 +98,8 @@ pub extern "C" fn gs1_c_read_dots(bits: &[u8], count: u32, year: u16, answer: &m
     u32::from(answer.fault)
 }
 
-/// The answer whose line this is, with the elements as data, as `gs1_c_format` writes it. Any other text is error 40 (`Kind`).
+/// Reads the answer back from its line, with the elements as data, as `gs1_c_format` writes it. Any other text is
+/// error 40 (`Kind`).
 #[unsafe(no_mangle)]
 pub extern "C" fn gs1_c_read_data(line: &[u8], year: u16, answer: &mut Answer) -> u32
     ensures told { IsAnsweredBy year (λ terms a. IsDataAnswer terms line.now a) answer.new }
@@ -111,7 +112,7 @@ pub extern "C" fn gs1_c_read_data(line: &[u8], year: u16, answer: &mut Answer) -
     u32::from(answer.fault)
 }
 
-/// The form of a number: 0, the elements as data; 1, as people read them.
+/// The form that a number means: 0, the elements as data; 1, as people read them.
 fn form_numbered(number: u32) -> Option<Form>
     ensures { result ≡ form_numbered number }
 {
@@ -122,8 +123,8 @@ fn form_numbered(number: u32) -> Option<Form>
     }
 }
 
-/// The line of an answer: its identifier, or `-`, and its elements in a form; or its error. It takes any bytes as an answer. A
-/// number that is no form is error 40 (`Kind`).
+/// The line of an answer: its identifier, or `-`, and its elements in a form; or its error. It accepts any bytes as
+/// an answer. A number that is no form is error 40 (`Kind`).
 #[unsafe(no_mangle)]
 pub extern "C" fn gs1_c_format(answer: &Answer, form: u32, out: &mut [u8]) -> usize
     ensures { IsPut (line_by (form_numbered form) answer.now) out.old out.new result }
@@ -134,9 +135,10 @@ pub extern "C" fn gs1_c_format(answer: &Answer, form: u32, out: &mut [u8]) -> us
     }
 }
 
-/// Writes the conflicts of an answer's elements, in the order of the elements, as many as there is room for, and returns how many it
-/// wrote: an element that needs another, excludes one that is there or has another value than one before it, and codes that are in no
-/// list (GS1 General Specifications, section 4.13). It takes any bytes as an answer.
+/// Writes the conflicts of an answer's elements, in the order of the elements, as many as there is room for, and
+/// returns how many it wrote. A conflict is an element that needs another one, excludes one that is there, or differs
+/// from an earlier one of the same AI; or a code that is in no list (GS1 General Specifications, section 4.13). It
+/// accepts any bytes as an answer.
 #[unsafe(no_mangle)]
 pub extern "C" fn gs1_c_conflicts(answer: &Answer, out: &mut [Conflict]) -> usize
     ensures count { result ≡ min (length (conflicts (entries_in answer.now))) (length out.old) }

@@ -1,5 +1,5 @@
-//! The calls that write the elements of an answer as a text that is read as the same elements. They take any bytes as an answer;
-//! elements that are none by the terms have their error.
+//! The calls that write the elements of an answer as a text that reads back as the same elements. They accept any
+//! bytes as an answer; if its elements are not valid under the terms, they return the error.
 ghost use Rattle.std.specs.Prelude.{◌≡◌, List, ℕ};
 ghost use Rattle.answer_core.specs.Written.{link_text, scan_text, written_text};
 ghost use Rattle.digits_core.specs.Buffers.{IsPut};
@@ -11,8 +11,9 @@ use crate::terms::terms_of;
 use answer_core::Answer;
 use digits_core::RefusalKind;
 
-/// The text that a scanner sends of a symbol with these elements: the identifier, `]C1`, `]e0`, `]d2`, `]Q3` or `]J1`, and the element
-/// string (GS1 General Specifications, section 5.1.3); or the error of the answer. Any other identifier is error 40 (`Kind`).
+/// The text that a scanner sends for a symbol with these elements: the identifier, `]C1`, `]e0`, `]d2`, `]Q3` or
+/// `]J1`, and the element string (GS1 General Specifications, section 5.1.3); or the error of the answer. Any other
+/// identifier is error 40 (`Kind`).
 #[unsafe(no_mangle)]
 pub extern "C" fn gs1_c_scan_text(
     answer: &Answer,
@@ -29,9 +30,9 @@ pub extern "C" fn gs1_c_scan_text(
     }
 }
 
-/// The Digital Link of these elements with a stem, such as `https://id.gs1.org`: the first key and its qualifiers in the path, the others in
-/// the query (GS1 Digital Link: URI syntax, section 4); or the error of the answer. Without a key, or with a stem that no path may follow,
-/// it is error 40 (`Kind`).
+/// The Digital Link of these elements with a stem, such as `https://id.gs1.org`. The path has the first key and its
+/// qualifiers, the query has the others (GS1 Digital Link: URI syntax, section 4). Or the error of the answer.
+/// Without a key, or with a stem that no path may follow, it is error 40 (`Kind`).
 #[unsafe(no_mangle)]
 pub extern "C" fn gs1_c_link(answer: &Answer, stem: &[u8], year: u16, out: &mut [u8]) -> usize
     ensures { (line : List ℕ) × IsLineUnder year (λ terms it. it ≡ written_text (link_text terms stem.now) answer.now) line

@@ -24,8 +24,8 @@ use std::thread::Threads;
 use std::time::Clock;
 use wire_core::Wired;
 
-/// The exit status of a command that has run. A refusal is written to standard error, at a terminal with what
-/// to do about it.
+/// The exit status of a command that has run. It writes a refusal to standard error, at a terminal with what to do
+/// about it.
 fn finish(rt: &impl Eprint, ran: Result<(), CommandFault>, terminal: bool) -> io::Result<ExitCode>
     ensures status { IfOk result (λ code. exit_status code ≡ status_of ran) }
     ensures quiet { OnOk ran (IsOk result) }
@@ -42,8 +42,8 @@ fn finish(rt: &impl Eprint, ran: Result<(), CommandFault>, terminal: bool) -> io
     }
 }
 
-/// The exit status if the words ask for no command. Help goes to the sink, and a refusal, of the words
-/// or of the writing, is told on standard error.
+/// The exit status if the arguments ask for no command. Help goes to the sink. An error in the arguments, or of
+/// writing the help, goes to standard error.
 fn explain<W: Sink>(
     rt: &impl Eprint,
     fault: &WordsFault,
@@ -65,7 +65,7 @@ fn explain<W: Sink>(
     }
 }
 
-/// The words of the command line, the program's name first.
+/// The arguments, beginning with the name of the program.
 fn words_given<R: Env + AllocGlobal>(rt: &R) -> Result<Vec<String>, WordsFault> {
     match env::args(rt) {
         Ok(args) => match args.collect::<Vec<String>>(rt.alloc()) {
@@ -77,7 +77,7 @@ fn words_given<R: Env + AllocGlobal>(rt: &R) -> Result<Vec<String>, WordsFault> 
     }
 }
 
-/// Runs a command over a whole source, with a buffer before the sink.
+/// Runs a command over a whole source, with a buffer in front of the sink.
 fn run_over<R: Threads + Wait + Sync + AllocGlobal, S: Source, W: Sink + Drop>(
     rt: &R,
     batch: WholeInput,
@@ -91,7 +91,7 @@ fn run_over<R: Threads + Wait + Sync + AllocGlobal, S: Source, W: Sink + Drop>(
     ran
 }
 
-/// Runs a command over standard input as a whole, with buffers before it and before standard output.
+/// Runs a command over all of standard input, with buffers for it and for standard output.
 fn run_over_input<R: Threads + Wait + Sync + Clock + Input + Print + AllocGlobal>(
     rt: &R,
     batch: WholeInput,
@@ -104,13 +104,13 @@ fn run_over_input<R: Threads + Wait + Sync + Clock + Input + Print + AllocGlobal
     run_over(rt, batch, &mut source, sink)
 }
 
-/// Runs `live` on standard input and output without buffers, so that a read gives what is there and an answer
-/// goes out at once.
+/// Runs `live` on standard input and output without buffers, so that a read returns what is there and an answer goes
+/// out at once.
 fn run_as_input_comes<R: Threads + Wait + Sync + Clock + Input + Print + AllocGlobal>(
     rt: &R,
     options: LiveOptions,
 ) -> Result<(), CommandFault> {
-    // In a box: a large reader that is moved with its wire takes the compiler minutes.
+    // In a box: the compiler takes minutes if a large reader moves with its wire.
     let Ok(reader) = Box::new(rt.alloc(), rt.reader()) else {
         return Err(CommandFault::NoMemory);
     };
@@ -120,7 +120,8 @@ fn run_as_input_comes<R: Threads + Wait + Sync + Clock + Input + Print + AllocGl
     ended
 }
 
-/// Runs what the words ask for, or tells at a terminal, after the refusal, what clap says of them.
+/// Runs the command that the arguments ask for. If they are wrong, a terminal gets what clap says about them after
+/// the refusal.
 fn answer_words<R: Threads + Wait + Sync + Clock + Input + Print + Eprint + AllocGlobal>(
     rt: &R,
     words: &[String],

@@ -1,4 +1,4 @@
-//! Readers and writers that wait if another program has set a pipe not to wait (`O_NONBLOCK`).
+//! Readers and writers that wait even if another program has made a pipe non-blocking (`O_NONBLOCK`).
 ghost use Rattle.std.specs.Prelude.{◌≡◌};
 ghost use Rattle.std.specs.Io.{ReadsAtMost, WritesAtMost};
 ghost use Rattle.std.specs.Io.KnownBytes.{ReadConsumes, WriteAppends};
@@ -7,7 +7,7 @@ use std::io::{self, ErrorKind, Read, Write};
 use std::thread;
 use std::time::{Clock, Duration};
 
-/// A reader or a writer that waits while the one within has nothing, or no room, yet.
+/// A reader or a writer that waits while the inner one has no bytes, or no room, yet.
 #[derive(Drop)]
 pub struct Patient<'a, C, T> {
     clock: &'a C,
@@ -15,7 +15,7 @@ pub struct Patient<'a, C, T> {
 }
 
 impl<'a, C: Clock, T> Patient<'a, C, T> {
-    /// One round this reader or writer.
+    /// Wraps this reader or writer.
     pub fn new(clock: &'a C, inner: T) -> Patient<'a, C, T>
         ensures { result.inner ≡ inner }
     {
@@ -23,7 +23,7 @@ impl<'a, C: Clock, T> Patient<'a, C, T> {
     }
 }
 
-/// A read. One that would block is asked again after a millisecond.
+/// A read. If it would block, it tries again after a millisecond.
 fn read_waiting<C: Clock, R: Read>(clock: &C, reader: &mut R, buf: &mut [u8]) -> io::Result<usize>
     ensures bound { ReadsAtMost result buf.new }
     ensures bytes { ReadConsumes (R.remaining reader.old) (R.remaining reader.new) result buf.new }
@@ -39,7 +39,7 @@ fn read_waiting<C: Clock, R: Read>(clock: &C, reader: &mut R, buf: &mut [u8]) ->
     Err(io::Error::from(ErrorKind::WouldBlock))
 }
 
-/// A write. One that would block is asked again after a millisecond.
+/// A write. If it would block, it tries again after a millisecond.
 fn write_waiting<C: Clock, W: Write>(clock: &C, writer: &mut W, bytes: &[u8]) -> io::Result<usize>
     ensures bound { WritesAtMost result bytes.now }
     ensures bytes { WriteAppends (W.contents writer.old) (W.contents writer.new) result bytes.now }

@@ -1,4 +1,4 @@
--- What becomes of a deliverer's seat that collects or hands.
+-- What a deliverer's seat is after it has collected or handed.
 use Rattle.std.specs.Prelude.{◌≡◌, ℕ}
 use Rattle.hub_core.specs.Delivering.{Collects, Hands, lane_count}
 use Rattle.hub_core.specs.Hubs.{IsDelivererOf}

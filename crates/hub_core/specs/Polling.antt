@@ -1,4 +1,4 @@
--- What becomes of a lane's seat that is polled.
+-- What a lane's seat is after a poll.
 use Rattle.std.specs.Prelude.{◌≡◌, MatchOption, None, Option}
 use Rattle.lane_core.specs.declared.job.Plain.{Plain}
 use Rattle.hub_core.specs.Hubs.{IsLaneOf}

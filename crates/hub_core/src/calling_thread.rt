@@ -1,4 +1,4 @@
-//! The one loop of the calling thread, by which a traffic is served by workers beside each other.
+//! The loop of the calling thread: it serves a traffic while workers read rows on threads of their own.
 
 use crate::collected_by_lane::CollectedByLane;
 use crate::deliverer_seat::{DelivererSeat, Handed};
@@ -15,21 +15,21 @@ use std::mem;
 use std::snapshot::Snapshot;
 use std::sync::Wait;
 
-/// How many rows at most are submitted before deliveries are collected, and how many deliveries at most before rows
-/// are submitted. No claim rests on this number or the next: `bench/serve` shows what they cost. docs/ARCHITECTURE.md
-/// tells both.
+/// How many rows the calling thread submits at most before it collects deliveries, and how many deliveries it
+/// collects at most before it submits rows. No proof depends on this number or the next: `bench/serve` measures their
+/// effect. docs/ARCHITECTURE.md gives both.
 const IN_A_TURN: u32 = 32;
 
-/// How many deliveries at most are collected if the calling thread has slept: all that were posted while it slept,
-/// since the queue holds no more (`CAPACITY` in traffic_serving.rt).
+/// How many deliveries it collects at most after it has slept: all that workers posted while it slept, since the
+/// queue holds no more (`CAPACITY` in traffic_serving.rt).
 const AFTER_A_SLEEP: u32 = 64;
 
-/// What a turn leaves to do.
+/// What comes after a turn.
 #[derive(Clone, Copy)]
 enum Turn {
     /// The next turn.
     GoesOn,
-    /// All that was given has come back, and nothing more is there.
+    /// All rows that the traffic gave have come back, and no more are there.
     AllBack,
     /// Memory was refused.
     NoMemory,
@@ -42,11 +42,11 @@ pub(crate) struct CallingThread<'a, T> {
     /// By lane.
     pub(crate) lanes: Vec<LaneSeat>,
     pub(crate) deliverer: DelivererSeat,
-    /// A worker's seat without a thread, if the traffic lets the calling thread read rows.
+    /// A worker's seat without a thread, if the calling thread may read rows of this traffic itself.
     pub(crate) own: Option<WorkerSeat>,
-    /// In a box, since a large one that is moved from result to result takes the compiler minutes.
+    /// In a box: the compiler takes minutes if a large value moves from result to result.
     pub(crate) traffic: Box<T>,
-    /// The traffic as it was at first. It has no bytes.
+    /// The traffic before the first row. It takes no bytes.
     pub(crate) start: Snapshot<T>,
     /// The row in hand, for which the queue of jobs had no room, and its lane.
     pub(crate) held: Option<(u8, Runs)>,
@@ -57,7 +57,8 @@ impl<'a, T: Traffic> CallingThread<'a, T> {
     ghost use Rattle.std.specs.Prelude.{◌≡◌, Ok, false, true};
     ghost use Rattle.hub_core.specs.inner.CallingThread.{GoesOn, HasAllBack, EndsServing, IsAtEnd, IsServing, TakesStep};
 
-    /// Submits the next `IN_A_TURN` rows, first the one in hand. False if there were fewer, or no room for one.
+    /// Submits the next `IN_A_TURN` rows, beginning with the one in hand. Returns false if there were fewer, or no
+    /// room for one.
     fn submit_some<R: Wait>(&mut self, rt: &R) -> bool
         requires { IsServing T.Came self.old }
         ensures { GoesOn T.Came self.old self.new }
@@ -84,18 +85,18 @@ impl<'a, T: Traffic> CallingThread<'a, T> {
         true
     }
 
-    /// Hands the lane its next numbers, and brings each at once.
+    /// Hands the lane its next deliveries and brings each to the traffic at once.
     fn bring_all(&mut self, lane: u8) -> Result<(), T::BringFault>
         requires { IsServing T.Came self.old }
         ensures { TakesStep T.Came T.Leaves self.old result self.new }
     {
         let index = usize::from(lane);
-        // What was set aside as a stranger may name a lane that is not there.
+        // A delivery that was set aside as a stranger may name a lane that does not exist.
         if index >= self.lanes.len() {
             return Ok(());
         }
-        // The loop ends when `hand` has nothing, and no claim rests on its bound. With a low bound a delivery would be
-        // left, and what is served in `tests/commands` would not end.
+        // The loop ends when `hand` has nothing; no proof depends on its bound. With a low bound a delivery would be
+        // left over, and the runs in `tests/commands` would not end.
         for _i in 0..u64::MAX {
             if self.deliverer.hand(lane) == Handed::Nothing {
                 break;
@@ -124,8 +125,8 @@ impl<'a, T: Traffic> CallingThread<'a, T> {
         Ok(collected)
     }
 
-    /// Works with its own seat, if it has one: it posts the delivery that the seat holds, or, if the seat holds none
-    /// and the thread is idle, reads a row and posts its delivery. Whether a delivery was posted.
+    /// Works with its own seat, if it has one: it posts the delivery that the seat holds. If the seat holds none and
+    /// the thread is idle, it reads a row and posts its delivery. Returns whether it posted one.
     fn read_row<R: Wait>(&mut self, rt: &R, is_idle: bool) -> bool
         requires { IsServing T.Came self.old }
         ensures { GoesOn T.Came self.old self.new }
@@ -138,20 +139,20 @@ impl<'a, T: Traffic> CallingThread<'a, T> {
         }
         let has_posted = self.hub.work(rt, seat, &OpenGate) == Worked::Posted;
         if has_posted {
-            // The workers need not be told of the row that was read here.
+            // The workers need not know of the row that was read here.
             self.pace.unannounced = self.pace.unannounced.saturating_sub(1);
         }
         has_posted
     }
 
-    /// Whether nothing that was given is still on its way.
+    /// Whether all rows that were given have come back.
     fn has_all_back(&self) -> bool
         ensures { result ≡ true → HasAllBack self.now }
     {
         self.held.is_none() && self.lanes.iter().all(|seat| seat.polled == seat.issued)
     }
 
-    /// Whether there is work for a further worker.
+    /// Whether there is work for one more worker.
     fn has_many_under_way(&self) -> bool {
         let under_way = self.lanes.iter().fold(0u32, |sum, seat| {
             sum.saturating_add(seat.issued - seat.polled)
@@ -159,14 +160,14 @@ impl<'a, T: Traffic> CallingThread<'a, T> {
         under_way > ROWS_A_WORKER
     }
 
-    /// Collects and submits. If no more can be collected or submitted now, it reads a row and posts its
-    /// delivery. If it has posted none, it waits for a delivery, unless all has come back.
+    /// Collects and submits. If it can do neither now, it reads a row and posts the delivery. If it posted none, it
+    /// waits for a delivery, unless all have come back.
     fn take_turn<R: Wait>(&mut self, rt: &R) -> Result<Turn, T::BringFault>
         requires { IsServing T.Came self.old }
         ensures step { TakesStep T.Came T.Leaves self.old result self.new }
         ensures back { result ≡ Ok Turn.AllBack → HasAllBack self.new }
     {
-        // Read before it collects, so that it does not sleep through what is posted meanwhile.
+        // Read before it collects, so that it does not sleep past a delivery that comes meanwhile.
         let seen = self.pace.signals.deliveries.given();
         let has_slept = mem::replace(&mut self.pace.has_slept, false);
         let collected = self.collect_some(rt, if has_slept { AFTER_A_SLEEP } else { IN_A_TURN })?;
@@ -189,7 +190,7 @@ impl<'a, T: Traffic> CallingThread<'a, T> {
         Ok(Turn::GoesOn)
     }
 
-    /// Waits for more. False at the end.
+    /// Waits for more rows. Returns false at the end.
     fn wait_for_more(&mut self) -> Result<bool, T::WaitFault>
         requires serves { IsServing T.Came self.old }
         requires back { HasAllBack self.old }

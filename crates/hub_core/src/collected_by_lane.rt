@@ -1,6 +1,6 @@
-//! What `Hub::collect_by_lane` answers: `Collected`, with the lane.
+//! The result of `Hub::collect_by_lane`: `Collected`, with the lane.
 
-/// As `Collected`, and of which lane the delivery is.
+/// As `Collected`, with the lane of the delivery.
 #[derive(Clone, Copy, PartialEq)]
 pub(crate) enum CollectedByLane {
     /// There was none.

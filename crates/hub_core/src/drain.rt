@@ -1,4 +1,4 @@
-//! Takes all that no lane has polled out of a hub: out of its rings, what waits, the hands and the queues.
+//! Takes everything that no lane has polled out of a hub: out of its rings, the deliverer, the hands and the queues.
 ghost use Rattle.std.specs.Prelude.{◌≡◌, ◌++◌, All, option_to_list};
 ghost use Rattle.std.specs.List.{flat_map};
 ghost use Rattle.crossbeam_queue.specs.Passes.{IsPassOf};
@@ -57,8 +57,8 @@ fn place_hands(
     }
 }
 
-/// Drains a queue by the pass that has all its shares (1,024: `IsOneForOne` in specs/), and so knows at the end that
-/// nothing is left.
+/// Drains a queue with the pass that has all its shares (1,024: `IsOneForOne` in specs/). Only that pass knows at the
+/// end that nothing is left.
 fn place_queue<T: Queued, R: Wait>(
     rt: &R,
     queue: &Queue<T>,
@@ -76,7 +76,7 @@ fn place_queue<T: Queued, R: Wait>(
     }
 }
 
-/// Takes out what waits.
+/// Takes out the deliveries that wait.
 fn place_waiting(deliverer: &mut Deliverer, lists: &mut Vec<Vec<Delivery>>)
     ensures drains { Drains lists.old.items lists.new.items (AreTheSame deliverer.old.waiting) }
 {
@@ -85,7 +85,7 @@ fn place_waiting(deliverer: &mut Deliverer, lists: &mut Vec<Vec<Delivery>>)
     }
 }
 
-/// Takes out of a ring what is left there, with both its ends at hand.
+/// Takes what is left out of a ring, with both its ends at hand.
 fn place_rest(
     producer: &mut Producer<Delivery>,
     consumer: &mut Consumer<Delivery>,
@@ -131,10 +131,10 @@ fn place_rings(
     }
 }
 
-/// Takes all that no lane has polled out of the hub's parts, into the lists.
+/// Takes everything that no lane has polled out of the hub's parts, into the lists.
 ///
-/// Of a lane's numbers that are left, those in its ring are the lowest, and those in the queue of jobs the highest. So
-/// in this order of the calls the lists come as nearly in order as `Hub::settle` says.
+/// Of a lane's numbers that are left, the lowest are in its ring and the highest in the queue of jobs. So in this
+/// order of calls the lists come as nearly in order as `Hub::settle` says.
 pub(crate) fn drain_all<R: Wait>(
     rt: &R,
     hub: &Hub,

@@ -1,14 +1,14 @@
-//! How the serving of a traffic ended.
+//! How the service of a traffic ended.
 
-/// Why a traffic is served no longer.
+/// Why a traffic is no longer served.
 #[derive(Drop)]
 pub enum Ended<W, B> {
-    /// The traffic has ended, and all that it gave has come back.
+    /// The traffic has ended, and all rows that it gave have come back.
     Done,
     /// Memory was refused.
     NoMemory,
-    /// The traffic could not wait for more.
+    /// The traffic failed to wait for more rows.
     WaitFailed(W),
-    /// The traffic could not be brought a delivery, which is lost.
+    /// The traffic failed to take a delivery, which is lost.
     BringFailed(B),
 }

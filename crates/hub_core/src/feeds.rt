@@ -1,5 +1,5 @@
-//! Rows that are left of each lane, and are taken of the lanes in turn. The turns are for fairness: no claim rests on
-//! the order among lanes.
+//! The rows that are left of each lane. Lanes take turns. The turns are only for fairness: no proof depends on the
+//! order among lanes.
 ghost use Rattle.std.specs.Prelude.{◌≡◌, ◌==◌};
 ghost use Rattle.std.specs.List.{list_all};
 ghost use Rattle.std.specs.Vec.Iter.{into_iter_len};
@@ -10,7 +10,7 @@ use scan_core::Runs;
 use std::alloc::{AllocError, Global};
 use std::vec::IntoIter;
 
-/// Rows of each lane in their order, of which the first were given, the lanes in turn.
+/// Each lane's rows that are left, in order. Lanes take turns.
 #[derive(Drop)]
 pub struct Feeds {
     pub(crate) rests: Vec<IntoIter<Runs>>,
@@ -18,7 +18,7 @@ pub struct Feeds {
     turn: u8,
 }
 
-/// Whether none of these has a row left.
+/// Whether none of these lanes has a row left.
 fn are_empty(rests: &[IntoIter<Runs>]) -> bool
     ensures { result ≡ list_all (λ rest. into_iter_len rest == 0) rests.now }
 {
@@ -76,7 +76,7 @@ impl Feeds {
         None
     }
 
-    /// The next row, and its lane. Of up to `MOST_SEATS` lanes that have rows each has its turn.
+    /// The next row and its lane. If up to `MOST_SEATS` lanes have rows, each gets its turn.
     pub fn take(&mut self) -> Option<(u8, Runs)>
         ensures row { TakesRow (rests_of self.old) result (rests_of self.new) }
         ensures left { result ≡ None → length (rests_of self.old) ≤ 16 → are_given (rests_of self.old) ≡ true }
@@ -88,7 +88,7 @@ impl Feeds {
     }
 }
 
-/// A law: of feeds of which none is too long, no row was given at first, and all were given once none is left.
+/// A law about feeds, none of them too long: at first no row was given, and once none is left, all were given.
 pub fn feeds_are_given()
     ensures first { GivenAtFirst }
     ensures last { GivenAtLast }

@@ -1,6 +1,6 @@
-//! The scanning hub: lanes' rows are answered by workers beside each other.
+//! The scanning hub: workers read the rows of lanes in parallel, and each lane gets its answers in order.
 //!
-//! `tests/using/items.txt` lists what is exported here, and `tests/using/run` compares.
+//! `tests/using/items.txt` lists the public items, and `tests/using/run` fails if the two differ.
 #![tactic(auto)]
 
 mod calling_thread;

@@ -1,7 +1,7 @@
-//! How a thread that finds nothing to do sleeps, how another wakes it, and how workers are asked to stop.
+//! How an idle thread sleeps, how another thread wakes it, and how workers learn that they must stop.
 //!
-//! No claim rests on it, so no proof notices a lost wake. A lost wake costs `REST` of pace.rt: the time limit of
-//! tests/commands/lanes_test.py notices it, and `bench/serve` shows what wakes cost.
+//! No proof depends on it, so none would notice a lost wake. A lost wake costs `REST` of pace.rt: the time limit of
+//! tests/commands/lanes_test.py notices it, and `bench/serve` measures wakes.
 
 use std::hint;
 use std::sync::Wait;
@@ -11,10 +11,10 @@ use std::time::Duration;
 /// How many values 32 bits have: `park_timeout` compares the low 32 bits of a word.
 const WORDS: u64 = 4_294_967_296;
 
-/// How often a signal was given, and how many threads sleep until it is given again.
+/// How often a signal was given, and how many threads sleep until the next time.
 ///
-/// A thread reads how often it was given, looks for something to do, and if there is nothing it
-/// sleeps; a signal that was given meanwhile lets it look again at once.
+/// A thread reads the count, looks for work, and sleeps if there is none. If the signal was given meanwhile, it looks
+/// again at once.
 #[derive(Drop)]
 pub(crate) struct Signal {
     given: AtomicU64,
@@ -22,7 +22,7 @@ pub(crate) struct Signal {
 }
 
 impl Signal {
-    /// A signal that was not given.
+    /// A signal that was never given.
     fn new() -> Signal {
         Signal {
             given: AtomicU64::new(0),
@@ -35,7 +35,7 @@ impl Signal {
         self.given.load(Ordering::SeqCst)
     }
 
-    /// Whether it was given more than `seen` times, at one of this many looks.
+    /// Whether it was given more than `seen` times. It polls this many times.
     pub(crate) fn is_given(&self, seen: u64, looks: u32) -> bool {
         for _ in 0..looks {
             if self.given() != seen {
@@ -46,11 +46,11 @@ impl Signal {
         false
     }
 
-    /// Waits until it is given more than `seen` times: it looks this many times, and then sleeps for `nap`
-    /// microseconds at most. False if one of the looks found it given, so that it did not sleep.
+    /// Waits until the signal was given more than `seen` times. It polls this many times, and then sleeps for `nap`
+    /// microseconds at most. Returns false if a poll found it given, so that it did not sleep.
     ///
-    /// It counts as a sleeper before the word is compared, and `give` changes the word before it reads that count. So
-    /// no signal falls between the two.
+    /// It counts as a sleeper before it compares the word, and `give` changes the word before it reads that count. So
+    /// no signal is lost between the two.
     pub(crate) fn wait<R: Wait>(&self, rt: &R, seen: u64, looks: u32, nap: u64) -> bool {
         if self.is_given(seen, looks) {
             return false;
@@ -62,13 +62,13 @@ impl Signal {
         true
     }
 
-    /// Gives it, and wakes no thread. How many sleep.
+    /// Gives the signal and wakes no thread. Returns how many sleep.
     fn give(&self) -> u64 {
         self.given.fetch_add(1, Ordering::SeqCst);
         self.sleepers.load(Ordering::SeqCst)
     }
 
-    /// Gives it, and wakes all threads that sleep.
+    /// Gives the signal and wakes all threads that sleep.
     pub(crate) fn notify_all(&self) {
         if self.give() > 0 {
             self.given.wake_all();
@@ -76,15 +76,15 @@ impl Signal {
     }
 }
 
-/// That there are jobs.
+/// The signal that there are jobs.
 ///
-/// One worker sleeps until a signal of its own is given, and is woken before all others: of rows that come one by
-/// one each finds the worker that was awake last, whose thread a processor runs sooner than one that slept long.
+/// One worker has a signal of its own and wakes before all others. If rows come one by one, each finds the worker
+/// that was awake last, whose thread the processor runs sooner than one that slept long.
 #[derive(Drop)]
 pub(crate) struct JobsSignal {
-    /// The one of the worker that asked first.
+    /// The signal of the worker that asked first.
     first: Signal,
-    /// The one that all other workers share.
+    /// The signal that all other workers share.
     others: Signal,
     /// How many workers have asked for their signal.
     workers: AtomicU64,
@@ -109,7 +109,7 @@ impl JobsSignal {
         }
     }
 
-    /// Gives it, and wakes a worker if at least `least` sleep. How many slept.
+    /// Gives it, and wakes a worker if at least `least` sleep. Returns how many slept.
     pub(crate) fn notify_one(&self, least: u64) -> u64 {
         let first = self.first.give();
         let asleep = first.saturating_add(self.others.give());

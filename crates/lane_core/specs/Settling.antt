@@ -91,8 +91,8 @@ pub record IsClaim (c : Claim) : Type 0 where
 abbrev pub GivesDue : Claim → List Plain → Type 0
 GivesDue c dropped = length c.polled + length c.given < length c.submitted → count_by (λ x. x.lane == c.lane) dropped ≡ 0
 
--- if all that the lanes had not polled was found, and each was given of it up to its due, each was given what it had not polled;
--- that no lane comes twice is asked of claims as `EachLaneOnce` does of accounts
+-- if everything that the lanes had not polled was found, and each lane got of it at most what it was due, then each got exactly what it had not
+-- polled; that no lane comes twice is required of claims as `EachLaneOnce` requires it of accounts
 abbrev pub ClaimsSettle : Type 0
 ClaimsSettle =
     (claims : List Claim) (found dropped : List Plain)

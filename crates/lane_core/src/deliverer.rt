@@ -1,4 +1,4 @@
-//! Hands each lane its deliveries by number, whatever order they come in.
+//! Gives each lane its deliveries in the order of their numbers, whatever order they arrive in.
 ghost use Rattle.std.specs.Prelude.{◌≡◌, ◌<◌, ◌≤◌, ◌↔◌, [], replicate, true, false, IsSome, IfErr, IfOk, IfNone, IfSome, OnErr, OnOk};
 ghost use Rattle.lane_core.specs.declared.next_slot.NextSlot.TheVariants.{Missing};
 ghost use Rattle.lane_core.specs.inner.NextSlots.{Advances, AreIndexed};
@@ -13,20 +13,20 @@ use std::alloc::{AllocError, Global};
 use std::collections::{BTreeMap, BTreeSet};
 use std::marker::Model;
 
-/// Keeps deliveries until their lane is given them, each lane by number from 0.
+/// Keeps deliveries until it gives them to their lane, each lane's by number from 0.
 ///
-/// Its memory goes with the lanes, with what waits and with what was taken out of turn, not with what
-/// has passed through. A call searches `later` and `known` for one ticket at most; `take_any` goes through the slots
-/// if `later` is empty.
+/// Its memory grows with the lanes, with the deliveries that wait and with those that were taken out of turn, not
+/// with those that have passed through. A call searches `later` and `known` for at most one ticket; `take_any` goes
+/// through the slots if `later` is empty.
 #[derive(Debug, Drop)]
 pub struct Deliverer {
     /// Each lane's next number. A `u64`, since it is 2 ^ 32 after a lane's last number.
     nexts: Vec<u64>,
-    /// What there is of each lane's next number.
+    /// The state of each lane's next number.
     slots: Vec<NextSlot>,
-    /// What waits of later numbers.
+    /// The deliveries with later numbers that wait.
     later: BTreeMap<Ticket, Delivery>,
-    /// The tickets of later numbers that were taken in, whether they still wait or not.
+    /// The tickets of later numbers that came, even if their deliveries no longer wait.
     known: BTreeSet<Ticket>,
 }
 
@@ -42,8 +42,8 @@ impl Model for Deliverer {
     ghost invariant = { λ d. AreKept d.nexts.items d.slots.items d.later.entries d.known.keys };
 }
 
-/// Slots of lanes whose first number was not taken in; `idle_workers` and `open_lanes` of world.rt
-/// are loops of the same form.
+/// Slots of lanes whose first number has not come. `idle_workers` and `open_lanes` of world.rt have loops of the same
+/// form.
 fn missing_slots(alloc: Global, count: u16) -> Result<Vec<NextSlot>, AllocError>
     ensures { IfOk result (λ slots. slots.items ≡ replicate count Missing) }
 {
@@ -54,7 +54,7 @@ fn missing_slots(alloc: Global, count: u16) -> Result<Vec<NextSlot>, AllocError>
     Ok(slots)
 }
 
-/// What there is of the lane's number `next`. It is the lane's next from now on, so it leaves the later numbers.
+/// The state of the lane's number `next`, which becomes the lane's next number and so leaves the later ones.
 fn slot_of(
     later: &mut BTreeMap<Ticket, Delivery>,
     known: &mut BTreeSet<Ticket>,
@@ -79,8 +79,8 @@ fn slot_of(
 }
 
 impl Deliverer {
-    /// A deliverer of this many lanes; each lane's next number is 0. There are no more than 256 lanes, since
-    /// a ticket names its lane by a `u8`.
+    /// A deliverer for this many lanes; each lane's next number is 0. There are at most 256 lanes, since a ticket has
+    /// its lane as a `u8`.
     pub fn new(alloc: Global, lanes: u16) -> Result<Deliverer, NoMemory>
         requires { lanes ≤ 256 }
         ensures { IfOk result (λ d. d ≡ new_buffer lanes) }
@@ -93,7 +93,7 @@ impl Deliverer {
         })
     }
 
-    /// Whether the ticket was taken in before.
+    /// Whether a delivery with this ticket came before.
     fn was_taken(&self, ticket: Ticket) -> bool
         requires { ticket.lane < lanes_of self.now }
         ensures { result ≡ was_taken self.now ticket.lane ticket.number }
@@ -107,10 +107,10 @@ impl Deliverer {
         given | (is_next & has_come) | self.known.contains(&ticket)
     }
 
-    /// Keeps the delivery until its lane is given it.
+    /// Keeps the delivery until its lane gets it.
     ///
-    /// If the delivery is refused, it comes back in the fault and nothing changes. A `Stranger` is refused
-    /// before memory is asked for; a lane's next number needs no memory.
+    /// If the delivery is refused, the error returns it and nothing changes. A `Stranger` is refused before memory is
+    /// taken. A lane's next number needs no memory.
     pub fn take_in(&mut self, delivery: Delivery) -> Result<(), TakeFault>
         ensures taken { OnOk result (TakesIn self.old delivery self.new) }
         ensures refused { IfErr result (ComesBack self.old delivery) }
@@ -150,7 +150,7 @@ impl Deliverer {
         }
     }
 
-    /// Gives the lane its next number, if it waits; else nothing changes.
+    /// Gives the lane the delivery of its next number, if it waits; otherwise nothing changes.
     pub fn take_next(&mut self, lane: u8) -> Option<Delivery>
         requires { lane < lanes_of self.old }
         ensures some { IfSome result (λ x. GivesNext self.old lane x self.new) }
@@ -169,8 +169,8 @@ impl Deliverer {
         Some(delivery)
     }
 
-    /// Takes out one that waits, of any lane; none if nothing waits. Its number still counts as
-    /// taken in, and its lane is given neither it nor a number after it.
+    /// Takes out a delivery that waits, of any lane; none if nothing waits. Its number still counts as taken in, and
+    /// its lane gets neither it nor any later number.
     pub fn take_any(&mut self) -> Option<Delivery>
         ensures some { IfSome result (λ x. GivesAny self.old x self.new) }
         ensures none { IfNone result (((self.old).waiting ≡ []) × (self.new ≡ self.old)) }

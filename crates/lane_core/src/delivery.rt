@@ -16,7 +16,8 @@ pub struct Delivery {
     job: Job,
 }
 
-// Queues, the deliverer's slots and the hub's rings hold deliveries by value: each byte more is paid there.
+// Queues, the deliverer's slots and the hub's rings hold deliveries by value, so each additional byte costs memory
+// and time there.
 const _: () = prove!(size_of::<Delivery>() == 24);
 
 impl Model for Delivery {
@@ -43,7 +44,7 @@ impl Delivery {
         &self.job.row
     }
 
-    /// The row of the job, whose memory can be used again.
+    /// The row of the job, so that its memory can be reused.
     pub fn into_row(self) -> Runs
         ensures { result ≡ self.widths }
     {
@@ -57,15 +58,15 @@ impl Delivery {
         self.job.year
     }
 
-    /// The answer to the row by the reference year; there is only one. The elements of the answer are made here, of
-    /// what `decode` found.
+    /// The answer to the row by the reference year; there is only one. It computes the elements from what `decode`
+    /// found.
     pub fn answer(&self) -> Answer
         ensures { IsAnswer self.now.widths self.now.year result }
     {
         read_row(&self.job.row, self.job.year)
     }
 
-    /// Appends what `answer` gives to a text, with its elements in a form. No list of elements is made.
+    /// Appends the line of `answer` to a text, with its elements in a form. It makes no list of elements.
     pub fn push_answer(&self, form: Form, text: &mut String) -> Result<(), AllocError>
         ensures { OnOk result ((answer : Answer) × IsAnswer self.now.widths self.now.year answer
             × (string_bytes text.new ≡ string_bytes text.old ++ said form answer)) }
@@ -74,7 +75,7 @@ impl Delivery {
     }
 }
 
-/// Reads the job's row, up to the elements of the symbol that it shows; ticket, row and year stay.
+/// Reads the job's row, up to the elements of its symbol. Ticket, row and year stay.
 pub fn decode(job: Job) -> Delivery
     ensures { result ≡ job }
 {

@@ -7,10 +7,10 @@ use crate::delivery::Delivery;
 use digits_core::{Refusal, RefusalKind};
 use std::fmt;
 
-/// Why a delivery is not taken in, and the delivery, which is given back.
+/// Why a delivery is not taken in. The error returns the delivery.
 #[derive(Debug, Drop)]
 pub enum TakeFault {
-    /// Its lane is not there, or its number was taken in before.
+    /// Its lane does not exist, or its number came before.
     Stranger(Delivery),
     /// Memory to keep it was refused.
     NoMemory(Delivery),

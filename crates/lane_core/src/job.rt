@@ -1,4 +1,4 @@
-//! A row on its way to be read, and `Plain`, as which contracts see it before and after.
+//! A row that waits to be read; and `Plain`, its form in contracts before and after.
 
 use crate::ticket::Ticket;
 use element_core::Year;
@@ -6,7 +6,7 @@ use scan_core::Runs;
 use std::collections::LinkedList;
 use std::marker::Model;
 
-/// What contracts see of a job and of a delivery. No value of it is made.
+/// What contracts see of a job and of a delivery. It exists only in contracts.
 pub struct Plain {
     /// The ticket's lane.
     pub lane: u8,

@@ -1,17 +1,16 @@
-//! Laws about the machine and about lists of tickets: each function does nothing, and its contract is the law.
-//! Each law is defined in the file of specs/ from which the lines below import it. The comment there and the one here
-//! must agree.
+//! Laws about the state machine and about lists of tickets. Each is the contract of a function that does nothing. The
+//! file of specs/ that the lines below import has its definition; the comment there and the one here must agree.
 ghost use Rattle.lane_core.specs.History.{DoneStaysDone, EventsAreDone, ListsGrow, NothingAfterClose, PolledInOrder, QueuesKeep};
 ghost use Rattle.lane_core.specs.Reading.{DeliveriesAreRead, PolledAreRead};
 ghost use Rattle.lane_core.specs.Settling.{AllFound, ClaimsSettle, KeptWhole, ReceivedFirst, SameLists};
 ghost use Rattle.lane_core.specs.Whereabouts.{LostIsNone, OnePlace, TicketsOnce};
 
-/// Each issued ticket is in one place, once, and no other is in any.
+/// Each issued ticket is in exactly one place, and no other ticket is in any place.
 pub fn tickets_once()
     ensures { TicketsOnce }
 {}
 
-/// Each event is done exactly if its condition holds, in any state.
+/// Each event happens exactly if its condition holds, in any state.
 pub fn events_are_done()
     ensures { EventsAreDone }
 {}
@@ -26,13 +25,13 @@ pub fn queues_keep()
     ensures { QueuesKeep }
 {}
 
-/// What a lane has submitted is its numbers 0, 1, 2 and so on under the machine's year, and what it has polled is the
-/// first of it.
+/// What a lane has submitted has the numbers 0, 1, 2 and so on and the machine's year. What it has polled is a prefix
+/// of it.
 pub fn polled_in_order()
     ensures { PolledInOrder }
 {}
 
-/// What a lane has submitted and polled stays, and more may follow it.
+/// What a lane has submitted and polled stays; more may follow.
 pub fn lists_grow()
     ensures { ListsGrow }
 {}
@@ -42,7 +41,8 @@ pub fn nothing_after_close()
     ensures { NothingAfterClose }
 {}
 
-/// A closed lane that has polled as much as it has submitted has polled all of it, and polls nothing more.
+/// A closed lane that has polled as many deliveries as it submitted rows has polled all of them, and polls nothing
+/// more.
 pub fn done_stays_done()
     ensures { DoneStaysDone }
 {}
@@ -57,34 +57,35 @@ pub fn same_lists()
     ensures { SameLists }
 {}
 
-/// If the lanes together received no more than they submitted, each its own numbers from 0 on in order, each received
-/// the first of its own rows.
+/// If all lanes together received only what they submitted, and each lane received its own numbers from 0 on in
+/// order, then each received a prefix of its own rows.
 pub fn received_first()
     ensures { ReceivedFirst }
 {}
 
-/// If queues, workers and deliverer lose nothing, nothing was set aside, and all that was submitted is in some place.
+/// If queues, workers and deliverer lose nothing and nothing was set aside, then everything that was submitted is in
+/// some place.
 pub fn all_found()
     ensures { AllFound }
 {}
 
-/// The answers of deliveries of one reference year are those to their rows.
+/// The answers of deliveries with one reference year are the answers to their rows.
 pub fn deliveries_are_read()
     ensures { DeliveriesAreRead }
 {}
 
-/// The answers of what a lane has polled are those to the first of its rows, in their order.
+/// The answers of what a lane has polled are the answers to the first of its rows, in order.
 pub fn polled_are_read()
     ensures { PolledAreRead }
 {}
 
-/// If all that the lanes had not polled was found, and each was given of it up to its due, each was given what it had
-/// not polled.
+/// If everything that the lanes had not polled was found, and each lane got of it at most what it was due, then each
+/// got exactly what it had not polled.
 pub fn claims_settle()
     ensures { ClaimsSettle }
 {}
 
-/// If nothing was lost, each issued ticket is in one place, once, and no other is in any.
+/// If nothing was lost, each issued ticket is in exactly one place, and no other ticket is in any place.
 pub fn lost_is_none()
     ensures { LostIsNone }
 {}

@@ -1,7 +1,7 @@
-//! Tickets, jobs and deliveries; the deliverer, which hands each lane its deliveries by number; and
-//! the machine of lanes, workers and one deliverer.
+//! Tickets, jobs and deliveries; the deliverer, which gives each lane its deliveries in the order of their numbers;
+//! and the state machine of lanes, workers and one deliverer.
 //!
-//! `tests/using/items.txt` lists what this file exports; `tests/using/run` compares the two.
+//! `tests/using/items.txt` lists the public items, and `tests/using/run` fails if the two differ.
 #![tactic(auto)]
 
 mod deliverer;

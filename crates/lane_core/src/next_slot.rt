@@ -7,19 +7,19 @@ ghost use Rattle.lane_core.specs.declared.next_slot.NextSlot.TheVariants.{Here};
 use crate::delivery::Delivery;
 use std::mem;
 
-/// Whether a lane's next number was taken in, and its delivery as long as it waits.
+/// Whether the delivery of a lane's next number came, and the delivery while it waits.
 #[derive(Debug, Drop)]
 pub(crate) enum NextSlot {
-    /// It was not taken in.
+    /// It has not come.
     Missing,
     /// It waits.
     Here(Delivery),
-    /// It was taken out of turn, so the lane is given nothing more.
+    /// It was taken out of turn, so the lane gets nothing more.
     Out,
 }
 
 impl NextSlot {
-    /// The delivery that waits, in whose place `left` stands then; else nothing changes.
+    /// Takes the delivery that waits and puts `left` into its place; otherwise nothing changes.
     pub(crate) fn take(&mut self, left: NextSlot) -> Option<Delivery>
         ensures some { IfSome result (λ x. (self.old ≡ Here x) × (self.new ≡ left)) }
         ensures none { IfNone result ((is_here self.old ≡ false) × (self.new ≡ self.old)) }
@@ -34,7 +34,7 @@ impl NextSlot {
     }
 }
 
-/// The delivery of the first slot that has one, taken out of turn; else nothing changes.
+/// Takes the delivery of the first slot that has one, out of turn; otherwise nothing changes.
 pub(crate) fn take_first(slots: &mut [NextSlot]) -> Option<Delivery>
     ensures some { IfSome result (TakesSlot slots.old slots.new) }
     ensures none { IfNone result ((waiting_at slots.old ≡ []) × (slots.new ≡ slots.old)) }

@@ -1,4 +1,4 @@
-//! The places where an issued ticket can be; `World::place` says in which it is.
+//! The places where an issued ticket can be; `World::place` finds the one.
 
 /// Where an issued ticket is.
 #[derive(Clone, Copy, Debug, PartialEq, Eq)]
@@ -11,8 +11,8 @@ pub enum Place {
     ResultQueue,
     /// It waits at the deliverer.
     Waiting,
-    /// Its lane was given it and has not taken it.
+    /// It is in its lane's outbox.
     Outbox,
-    /// Its lane has taken it.
+    /// Its lane has polled it.
     Polled,
 }

@@ -5,7 +5,7 @@
 pub struct Ticket {
     /// The lane.
     pub lane: u8,
-    /// The row's number in its lane: 0, 1, 2 and so on. Its 32 bits are why `submit` of specs/Machine.antt gives a lane
-    /// 2 ^ 32 tickets at most.
+    /// The row's number in its lane: 0, 1, 2 and so on. It has 32 bits, so `submit` of specs/Machine.antt gives a
+    /// lane at most 2 ^ 32 tickets.
     pub number: u32,
 }

@@ -5,10 +5,10 @@ ghost use Rattle.lane_core.specs.Issuing.{issuing, ticket_of};
 use crate::ticket::Ticket;
 use std::marker::Model;
 
-/// Issues a lane's tickets, by number from 0, each once.
+/// Issues a lane's tickets, numbered from 0, each once.
 ///
-/// It is for programs that number the rows themselves. `Hub::submit` and `World::submit` number a row only if the queue
-/// takes it, which `issue` cannot.
+/// It is for programs that number rows themselves. `Hub::submit` and `World::submit` number a row only if the queue
+/// accepts it; `issue` cannot do that.
 #[derive(Debug, Drop)]
 pub struct Ticketer {
     lane: u8,
@@ -28,7 +28,7 @@ impl Model for Ticketer {
 }
 
 impl Ticketer {
-    /// The lane's tickets, `limit` of them; none is issued yet.
+    /// A lane with `limit` tickets, none of them issued yet.
     pub fn new(lane: u8, limit: u32) -> Ticketer
         ensures { result ≡ issuing lane limit 0 }
     {
@@ -39,7 +39,7 @@ impl Ticketer {
         }
     }
 
-    /// The next ticket; none, now and later, if all were issued.
+    /// The next ticket; none, from then on, if all were issued.
     pub fn issue(&mut self) -> Option<Ticket>
         ensures issued { self.old.issued < self.old.limit → (result ≡ Some (ticket_of self.old.lane self.old.issued)) × (self.new ≡ issuing self.old.lane self.old.limit (self.old.issued + 1)) }
         ensures spent { self.old.limit ≤ self.old.issued → (result ≡ None) × (self.new ≡ self.old) }

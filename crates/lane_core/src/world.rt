@@ -1,4 +1,4 @@
-//! Lanes, workers and a deliverer on one thread, one step at a time.
+//! Lanes, workers and a deliverer in one thread, one step at a time.
 ghost use Rattle.std.specs.Prelude.{None, ◌≡◌, ◌<◌, ◌≤◌, IfOk, false, length, map, replicate, []};
 ghost use Rattle.lane_core.specs.Contents.{HoldsOfShown, IsShown, ShowsState, lane_contents};
 ghost use Rattle.lane_core.specs.Holding.{lane_held};
@@ -17,10 +17,10 @@ use std::marker::Model;
 mod events;
 mod places;
 
-/// Lanes that submit rows and poll deliveries, workers, one deliverer, and queues without bound.
+/// Lanes that submit rows and poll deliveries, workers, one deliverer, and unbounded queues.
 ///
-/// Nothing runs by itself: each `step` is one event of the machine (specs/Machine.antt). In a `Hub` of
-/// hub_core lanes, workers and the deliverer may run on threads, and the queues have a limit.
+/// Nothing happens by itself: each `step` is one event of the state machine (specs/Machine.antt). In a `Hub` of
+/// hub_core, lanes, workers and the deliverer may run in threads of their own, and the queues have a limit.
 #[derive(Debug, Drop)]
 pub struct World {
     year: Year,
@@ -44,7 +44,7 @@ impl Model for World {
     ghost invariant = { HoldsShown };
 }
 
-/// Lanes that have done nothing yet; made as `missing_slots` of deliverer.rt is.
+/// Lanes that have done nothing yet. The loop is like that of `missing_slots` in deliverer.rt.
 fn open_lanes(alloc: Global, count: u16) -> Result<Vec<Lane>, AllocError>
     ensures { IfOk result (λ lanes. map lane_held lanes.items ≡ replicate count (lane_contents false 0 [] 0)) }
 {
@@ -60,7 +60,7 @@ fn open_lanes(alloc: Global, count: u16) -> Result<Vec<Lane>, AllocError>
     Ok(lanes)
 }
 
-/// Workers with no job; made as `missing_slots` of deliverer.rt is.
+/// Workers without a job. The loop is like that of `missing_slots` in deliverer.rt.
 fn idle_workers(alloc: Global, count: u32) -> Result<Vec<Option<Job>>, AllocError>
     ensures { IfOk result (λ workers. workers.items ≡ replicate count None) }
 {
@@ -72,8 +72,8 @@ fn idle_workers(alloc: Global, count: u32) -> Result<Vec<Option<Job>>, AllocErro
 }
 
 impl World {
-    /// A world of this many lanes and workers, in which nothing has happened; dates are read by the
-    /// reference year. `Deliverer::new` says why there are no more than 256 lanes.
+    /// A world of this many lanes and workers before anything has happened. Dates follow the reference year.
+    /// `Deliverer::new` says why there are at most 256 lanes.
     pub fn new(alloc: Global, lanes: u16, workers: u32, year: Year) -> Result<World, NoMemory>
         requires { lanes ≤ 256 }
         ensures shows { IfOk result (λ world. ShowsState world (start lanes workers year)) }
@@ -90,7 +90,7 @@ impl World {
         })
     }
 
-    /// What the lane has polled: its deliveries by number, from 0 on.
+    /// The deliveries that the lane has polled, by number, from 0 on.
     pub fn polled(&self, lane: u8) -> &[Delivery]
         requires { lane < length self.now.lanes }
         ensures shown { IsShown self.now }
@@ -100,7 +100,7 @@ impl World {
         &lane.handed[..lane.polled]
     }
 
-    /// How many tickets the lane has issued, which is the number of its next one.
+    /// How many tickets the lane has issued. This is the number of its next one.
     pub fn issued(&self, lane: u8) -> u64
         requires { lane < length self.now.lanes }
         ensures { HoldsOfShown self.now (λ s. result ≡ issued_of s lane) }

@@ -50,13 +50,13 @@ pub record IsNearestCode (seen : Five) (ink value : ℕ) : Type 0 where
 pub record AreCodeWidths (widths : List ℕ) (first value : ℕ) : Type 0 where
   pub each : (run : ℕ) → run < 6 → at widths (first + run) ≡ 48 * at (code_pattern value) run
 
--- the ends from one on show the character that the widths say, the first of which is that of the quiet zone
+-- the ends from one on show the character that the widths mean; their first is that of the quiet zone
 pub record IsCodeAt (ends widths : List ℕ) (ink first : ℕ) : Type 0 where
   pub value : ℕ
   pub said : AreCodeWidths widths (first + 1) value
   pub nearest : IsNearestCode (five_at ends first) ink value
 
--- so many characters from the first end on are shown, with one ink
+-- the ends show this many characters from the first end on, with one ink
 pub record ShowsCodes (ends widths : List ℕ) (count : ℕ) : Type 0 where
   pub ink : ℕ
   pub within : 6 * count < length ends

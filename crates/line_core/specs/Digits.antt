@@ -49,13 +49,13 @@ pub record IsNearest (seen : Inner) (ink character : ℕ) : Type 0 where
 pub record AreWidthsOf (widths : List ℕ) (first character : ℕ) : Type 0 where
   pub each : (run : ℕ) → run < 4 → at widths (first + run) ≡ 48 * at (digit_pattern character) run
 
--- the ends from one on show the digit that the widths say, the first of which is that of the quiet zone
+-- the ends from one on show the digit that the widths mean; their first is that of the quiet zone
 pub record ShowsDigitAt (ends widths : List ℕ) (ink first : ℕ) : Type 0 where
   pub character : ℕ
   pub said : AreWidthsOf widths (first + 1) character
   pub nearest : IsNearest (inner_at ends first) ink character
 
--- so many digits are shown, with one ink
+-- the ends show this many digits, with one ink
 pub record ShowsDigits (ends widths : List ℕ) (first count : ℕ) : Type 0 where
   pub ink : ℕ
   pub within : first + 4 * count < length ends

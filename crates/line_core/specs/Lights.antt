@@ -35,7 +35,7 @@ pub record IsLightBehind (values : List ℕ) (step both end width halves quiet :
 abbrev pub both_at : List ℕ → List ℕ → ℕ → ℕ
 both_at values turns number = at values (at turns number) + at values (at turns (number + 1))
 
--- how far it is from an end over so many runs
+-- the distance from an end over this many runs
 abbrev pub width_of : List ℕ → ℕ → ℕ → ℕ
 width_of ends first runs = at ends (first + runs) - at ends first
 

@@ -47,7 +47,7 @@ pub record IsNearestFive (seen : Five) (narrow wide digit : ℕ) : Type 0 where
 pub record AreFiveWidths (widths : List ℕ) (first digit : ℕ) : Type 0 where
   pub each : (number : ℕ) → number < 5 → at widths (first + 2 * number) ≡ 48 * at (five_widths digit) number
 
--- the pair that begins at an end shows in one colour the digit that the widths say, the first of which is that of the quiet zone
+-- the pair that begins at an end shows, in one colour, the digit that the widths mean; their first is that of the quiet zone
 pub record IsFiveAt (ends widths : List ℕ) (narrow wide colour first : ℕ) : Type 0 where
   pub digit : ℕ
   pub said : AreFiveWidths widths (first + 1 + colour) digit

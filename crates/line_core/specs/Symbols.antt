@@ -6,7 +6,7 @@ use Rattle.line_core.specs.Ends.{ShowsEnds}
 use Rattle.line_core.specs.Lights.{HasLight}
 use Rattle.line_core.specs.Pairs.{ShowsFives}
 
--- EAN-13 or UPC-A, and EAN-8: two halves of so many digits, behind a guard of three runs and a middle one of five
+-- EAN-13 or UPC-A, and EAN-8: two halves of this many digits, behind a guard of three runs and a middle one of five
 pub record ShowsEan (values : List ℕ) (from to step : ℕ) (turns ends widths : List ℕ) (digits quiet : ℕ) (edge : Bool) : Type 0 where
   pub count : length widths ≡ 8 * digits + 13
   pub left : ShowsDigits ends widths 3 digits
@@ -19,7 +19,7 @@ pub record ShowsUpce (values : List ℕ) (from to step : ℕ) (turns ends widths
   pub digits : ShowsDigits ends widths 3 6
   pub light : HasLight values from to step turns ends 3 23 4 14 5 false
 
--- Code 128: characters, of which the last one is the stop character, which has a bar more
+-- Code 128: characters; the last one is the stop character, which has one more bar
 pub record ShowsCode (values : List ℕ) (from to step : ℕ) (turns ends widths : List ℕ) (characters : ℕ) : Type 0 where
   pub some : 0 < characters
   pub count : length widths ≡ 6 * characters + 3

@@ -1,4 +1,4 @@
-//! Whether each character of Code 128 is nearer to its pattern than to every other.
+//! Whether each character of Code 128 is closer to its own pattern than to any other.
 ghost use Rattle.std.specs.Prelude.{◌≡◌, ◌≢◌, ◌+◌, ◌*◌, ◌<◌, ◌≤◌, ◌^◌, ℕ, IfSome, IsTrue, length};
 ghost use Rattle.line_core.specs.Codes.{AreCodeWidths, IsCodeAt, IsNearestCode, ShowsCodes, code_misfit_of, code_pattern, code_place, five_at};
 
@@ -42,7 +42,7 @@ pub static CODES: [[u8; 6]; 107] = [
     [2, 1, 1, 2, 3, 2], [2, 3, 3, 1, 1, 1],
 ];
 
-/// How wide a character is.
+/// The width of a character.
 #[tactic(auto, unfolding(code128_code::specs::Characters::patterns))]
 fn widths_of(value: u8) -> &'static [u8]
     requires { value < 107 }
@@ -52,7 +52,7 @@ fn widths_of(value: u8) -> &'static [u8]
     &CODES[usize::from(value)]
 }
 
-/// A distance in 1/48 module, where so much is eleven modules; none if it is far more.
+/// A distance in 1/48 module, if eleven modules are this wide; none if it is far more.
 fn place(distance: u32, eleven: u32) -> Option<u32>
     ensures value { IfSome result (λ parts. parts ≡ code_place distance eleven) }
     ensures few { IfSome result (λ parts. parts ≤ 4096) }
@@ -91,7 +91,7 @@ fn five_of(ends: &[u32], first: usize) -> Option<Five>
     })
 }
 
-/// How far inner ends are from those of a character that is so wide.
+/// The difference between inner ends and those of a character of this width.
 fn misfit(seen: Five, ink: u32, widths: &[u8]) -> u64
     requires one { seen.one ≤ 4096 }
     requires two { seen.two ≤ 4096 }
@@ -115,7 +115,7 @@ fn misfit(seen: Five, ink: u32, widths: &[u8]) -> u64
         + square_of((seen.five + 64).abs_diff(48 * five + ink))
 }
 
-/// Whether another character is less like inner ends than one whose misfit is known.
+/// Whether another character fits inner ends less well than one whose misfit is known.
 fn is_less_like(seen: Five, ink: u32, own: u64, value: u8, other: u8) -> bool
     requires one { seen.one ≤ 4096 }
     requires two { seen.two ≤ 4096 }
@@ -132,7 +132,7 @@ fn is_less_like(seen: Five, ink: u32, own: u64, value: u8, other: u8) -> bool
 /// The largest misfit of a character.
 const MOST_MISFIT: u64 = 1024;
 
-/// Whether inner ends are those of this character more than of any other, and not too far from them.
+/// Whether inner ends fit this character better than any other, and well enough.
 fn is_nearest(seen: Five, ink: u32, value: u8) -> bool
     requires one { seen.one ≤ 4096 }
     requires two { seen.two ≤ 4096 }
@@ -186,7 +186,7 @@ fn value_of(widths: &[u16], first: usize) -> Option<u8>
     None
 }
 
-/// Whether the ends from one on show the character that widths say.
+/// Whether the ends from one on show the character that the widths mean.
 fn is_code_at(ends: &[u32], widths: &[u16], ink: u32, first: usize) -> bool
     requires within { first + 6 < length ends.now }
     requires widths { first + 7 ≤ length widths.now }
@@ -202,7 +202,7 @@ fn is_code_at(ends: &[u32], widths: &[u16], ink: u32, first: usize) -> bool
     is_nearest(seen, ink, value)
 }
 
-/// What three ends of a character say of ink, if it is the one that widths say: with 65,536 more.
+/// The ink by three ends of a character, if it is the one that the widths mean; plus 65,536.
 fn ink_at(ends: &[u32], widths: &[u16], first: usize) -> Option<u32>
     requires within { first + 6 < length ends.now }
     requires widths { first + 7 ≤ length widths.now }
@@ -220,7 +220,7 @@ fn ink_at(ends: &[u32], widths: &[u16], first: usize) -> Option<u32>
     Some((65_536 + seen.one + seen.three + seen.five).saturating_sub(told))
 }
 
-/// The ink of characters, by the mean of what they say.
+/// The ink of characters: the mean of what their ends show.
 fn ink_of(ends: &[u32], widths: &[u16], count: usize) -> u32
     requires few { count ≤ 100 }
     requires within { 6 * count < length ends.now }
@@ -236,7 +236,7 @@ fn ink_of(ends: &[u32], widths: &[u16], count: usize) -> u32
     mean.saturating_sub(21_845 - 64).min(128) as u32
 }
 
-/// Whether so many characters from the first end on are shown, with one ink.
+/// Whether the ends show this many characters from the first end on, with one ink.
 pub(crate) fn show_codes(ends: &[u32], widths: &[u16], count: usize) -> bool
     requires few { count ≤ 100 }
     ensures { IsTrue result → ShowsCodes ends.now widths.now count }

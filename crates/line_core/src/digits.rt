@@ -1,4 +1,4 @@
-//! Whether each digit of EAN and UPC is nearer to its pattern than to every other.
+//! Whether each digit of EAN and UPC is closer to its own pattern than to any other.
 ghost use Rattle.std.specs.Prelude.{◌≡◌, ◌≢◌, ◌+◌, ◌*◌, ◌<◌, ◌≤◌, ◌^◌, ℕ, IfSome, IsTrue, length};
 ghost use Rattle.line_core.specs.Digits.{AreWidthsOf, ShowsDigitAt, IsNearest, ShowsDigits, digit_pattern, digit_place, inner_at, misfit_of, square};
 
@@ -35,7 +35,7 @@ pub static DIGITS: [[u8; 4]; 20] = [
     [2, 1, 1, 3],
 ];
 
-/// The widths of a digit.
+/// The width of a digit.
 fn widths_of(character: u8) -> &'static [u8]
     requires { character < 20 }
     ensures value { result.now ≡ digit_pattern character }
@@ -44,7 +44,7 @@ fn widths_of(character: u8) -> &'static [u8]
     &DIGITS[usize::from(character)]
 }
 
-/// A distance in 1/48 module, where so much is seven modules; none if it is far more.
+/// A distance in 1/48 module, if seven modules are this wide; none if it is far more.
 fn place(distance: u32, seven: u32) -> Option<u32>
     ensures value { IfSome result (λ parts. parts ≡ digit_place distance seven) }
     ensures few { IfSome result (λ parts. parts ≤ 4096) }
@@ -82,7 +82,7 @@ pub(crate) fn square_of(number: u32) -> u64
     u64::from(number) * u64::from(number)
 }
 
-/// How far inner ends are from those of a digit that is so wide.
+/// The difference between inner ends and those of a digit of this width.
 fn misfit(seen: Inner, ink: u32, widths: &[u8]) -> u64
     requires one { seen.one ≤ 4096 }
     requires two { seen.two ≤ 4096 }
@@ -101,7 +101,7 @@ fn misfit(seen: Inner, ink: u32, widths: &[u8]) -> u64
     32 * like + 16 * square_of(other) + 9 * square_of(moved)
 }
 
-/// Whether another digit is less like inner ends than one whose misfit is known.
+/// Whether another digit fits inner ends less well than one whose misfit is known.
 fn is_less_like(seen: Inner, ink: u32, own: u64, character: u8, other: u8) -> bool
     requires one { seen.one ≤ 4096 }
     requires two { seen.two ≤ 4096 }
@@ -116,7 +116,7 @@ fn is_less_like(seen: Inner, ink: u32, own: u64, character: u8, other: u8) -> bo
 /// The largest misfit of a digit.
 const MOST_MISFIT: u64 = 25_600;
 
-/// Whether inner ends are those of this digit more than of any other, and not too far from them.
+/// Whether inner ends fit this digit better than any other, and well enough.
 fn is_nearest(seen: Inner, ink: u32, character: u8) -> bool
     requires one { seen.one ≤ 4096 }
     requires two { seen.two ≤ 4096 }
@@ -168,7 +168,7 @@ fn digit_of(widths: &[u16], first: usize) -> Option<u8>
     None
 }
 
-/// Whether the ends from one on show the digit that widths say.
+/// Whether the ends from one on show the digit that the widths mean.
 fn is_digit_at(ends: &[u32], widths: &[u16], ink: u32, first: usize) -> bool
     requires within { first + 4 < length ends.now }
     requires widths { first + 5 ≤ length widths.now }
@@ -184,7 +184,7 @@ fn is_digit_at(ends: &[u32], widths: &[u16], ink: u32, first: usize) -> bool
     is_nearest(seen, ink, character)
 }
 
-/// What the ends of a digit say of ink, if it is the one that widths say: with 65,536 more.
+/// The ink by the ends of a digit, if it is the one that the widths mean; plus 65,536.
 fn ink_at(ends: &[u32], widths: &[u16], first: usize) -> Option<u32>
     requires within { first + 4 < length ends.now }
     requires widths { first + 5 ≤ length widths.now }
@@ -198,7 +198,7 @@ fn ink_at(ends: &[u32], widths: &[u16], first: usize) -> Option<u32>
     Some(65_536 + one + three - (seen.one + seen.three))
 }
 
-/// The ink of digits, by the mean of what they say.
+/// The ink of digits: the mean of what their ends show.
 fn ink_of(ends: &[u32], widths: &[u16], first: usize, count: usize) -> u32
     requires few { count ≤ 6 }
     requires near { first ≤ 100 }
@@ -215,7 +215,7 @@ fn ink_of(ends: &[u32], widths: &[u16], first: usize, count: usize) -> u32
     mean.saturating_sub(65_536 - 64).min(128)
 }
 
-/// Whether so many digits are shown, with one ink.
+/// Whether the ends show this many digits, with one ink.
 pub(crate) fn show_digits(ends: &[u32], widths: &[u16], first: usize, count: usize) -> bool
     requires few { count ≤ 6 }
     requires near { first ≤ 100 }

@@ -57,7 +57,7 @@ fn rises(values: &[u32], from: usize, to: usize) -> bool
     true
 }
 
-/// So many times the value that is a part of a step behind one value, on a straight way to the next.
+/// `step` times the value at `part` of `step` parts on a straight line from one value to the next.
 fn way(before: u32, behind: u32, step: u32, part: u32) -> u64
     requires step { step ≤ 65535 }
     requires part { part < step }
@@ -67,7 +67,7 @@ fn way(before: u32, behind: u32, step: u32, part: u32) -> u64
     u64::from(step - part) * u64::from(before) + u64::from(part) * u64::from(behind)
 }
 
-/// Whether an end lies between two extremes, of which one is dark and the other light.
+/// Whether an end lies between a dark and a light extreme.
 fn is_end(values: &[u32], step: u16, from: usize, to: usize, low: u32, high: u32, end: u32) -> bool
     requires { to < length values.now }
     ensures { IsTrue result → IsEnd values.now step from to low high end }

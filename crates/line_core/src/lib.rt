@@ -1,4 +1,4 @@
-//! What a line of grey values shows: the ends of bars, the characters between them, and the light beside them.
+//! What a line of grey values shows: the ends of bars, the characters between them, and the light on both sides.
 #![tactic(auto)]
 
 mod codes;

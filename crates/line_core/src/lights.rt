@@ -5,8 +5,9 @@ ghost use Rattle.line_core.specs.Lights.{HasLight, IsFarBefore, IsFarBehind, IsL
 
 use crate::symbols::Bars;
 
-/// How much light there is to be: `quiet` half modules, where a character of `halves` half modules is so wide; a light extreme and
-/// the dark one beside it, together; how far samples are apart; whether the edge of the picture counts as light; and which samples are of the picture.
+/// How much light must be there: `quiet` half modules, if a character of `halves` half modules has this width; the
+/// sum of a light extreme and the dark one beside it; the distance of samples; whether the edge of the picture counts
+/// as light; and which samples are in the picture.
 #[derive(Clone, Copy)]
 pub(crate) struct Light {
     step: u16,
@@ -19,7 +20,7 @@ pub(crate) struct Light {
     to: usize,
 }
 
-/// So many times a place.
+/// A place, times a number.
 fn times(halves: u16, place: u64) -> u64
     requires { place < 2 ^ 40 }
     ensures value { result ≡ halves * place }
@@ -28,7 +29,7 @@ fn times(halves: u16, place: u64) -> u64
     u64::from(halves) * place
 }
 
-/// Where a sample is.
+/// The place of a sample.
 fn place_of(step: u16, sample: usize) -> u64
     requires { sample < 2 ^ 20 }
     ensures value { result ≡ step * sample }
@@ -48,7 +49,7 @@ fn is_light_before(values: &[u32], light: Light, end: u32, sample: usize) -> boo
     here + u64::from(light.width) > last || light.both <= 2 * u64::from(values[sample])
 }
 
-/// Whether a sample is so far before an end, or the first of the picture, and that is enough.
+/// Whether a sample is this far before an end, or the first of the picture if that is enough.
 fn is_far_before(light: Light, end: u32, sample: usize) -> bool
     requires { sample < 2 ^ 20 }
     ensures { IsTrue result → IsFarBefore light.step end light.width light.halves light.quiet light.edge light.from sample }
@@ -65,7 +66,7 @@ fn is_far_before(light: Light, end: u32, sample: usize) -> bool
     light.edge || here <= last + times(light.halves, 256)
 }
 
-/// Whether a sample is so far behind an end, or the last of the picture, and that is enough.
+/// Whether a sample is this far behind an end, or the last of the picture if that is enough.
 fn is_far_behind(light: Light, samples: usize, end: u32, sample: usize) -> bool
     requires { sample < 2 ^ 20 }
     ensures { IsTrue result → IsFarBehind light.step end light.width light.halves light.quiet light.edge light.to samples sample }
@@ -191,7 +192,7 @@ fn has_light_behind(values: &[u32], light: Light, end: u32) -> bool
     )
 }
 
-/// A dark and a light extreme that are next to each other, together.
+/// The sum of a dark and a light extreme that are next to each other.
 fn both_at(values: &[u32], turns: &[u32], number: usize) -> Option<u64>
     requires { number < 2 ^ 40 }
     ensures { IfSome result (λ both. both ≡ both_at values.now turns.now number) }
@@ -207,7 +208,7 @@ fn both_at(values: &[u32], turns: &[u32], number: usize) -> Option<u64>
     Some(u64::from(values[one]) + u64::from(values[other]))
 }
 
-/// How far it is from an end over so many runs.
+/// The distance from an end over this many runs.
 fn width_of(ends: &[u32], first: usize, runs: usize) -> Option<u32>
     requires first { first < 2 ^ 40 }
     requires runs { runs < 2 ^ 40 }
@@ -219,7 +220,7 @@ fn width_of(ends: &[u32], first: usize, runs: usize) -> Option<u32>
     Some(ends[first + runs].saturating_sub(ends[first]))
 }
 
-/// A character: at which end it begins, its runs, and its half modules.
+/// A character: the end at which it begins, its runs, and its half modules.
 #[derive(Clone, Copy)]
 pub(crate) struct Place {
     pub(crate) first: usize,
@@ -227,7 +228,7 @@ pub(crate) struct Place {
     pub(crate) halves: u16,
 }
 
-/// Whether there is so much light before the bars, by the first character.
+/// Whether there is this much light before the bars, by the first character.
 fn has_light_at_left(bars: &Bars, character: Place, quiet: u16, edge: bool) -> bool
     requires first { character.first < 2 ^ 40 }
     requires runs { character.runs < 2 ^ 40 }
@@ -256,7 +257,7 @@ fn has_light_at_left(bars: &Bars, character: Place, quiet: u16, edge: bool) -> b
     has_light_before(bars.values, light, bars.ends[0])
 }
 
-/// Whether there is so much light behind them, by the last character.
+/// Whether there is this much light behind them, by the last character.
 fn has_light_at_right(bars: &Bars, character: Place, quiet: u16, edge: bool) -> bool
     requires first { character.first < 2 ^ 40 }
     requires runs { character.runs < 2 ^ 40 }
@@ -288,7 +289,8 @@ fn has_light_at_right(bars: &Bars, character: Place, quiet: u16, edge: bool) -> 
     has_light_behind(bars.values, light, bars.ends[last])
 }
 
-/// Whether there is so much light beside the bars, by characters of so many runs and half modules that begin at these ends.
+/// Whether there is this much light beside the bars, by characters that begin at these ends, with this many runs and
+/// half modules.
 pub(crate) fn has_light(
     bars: &Bars,
     first: usize,

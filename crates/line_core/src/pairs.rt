@@ -1,4 +1,4 @@
-//! Whether each digit of ITF-14 is nearer to its elements than to those of every other.
+//! Whether each digit of ITF-14 is closer to its own elements than to those of any other.
 ghost use Rattle.std.specs.Prelude.{◌≡◌, ◌≢◌, ◌+◌, ◌*◌, ◌<◌, ◌≤◌, ◌^◌, ℕ, IfSome, IsTrue, length};
 ghost use Rattle.ean_code.specs.TwoOfFive.{five_widths};
 ghost use Rattle.line_core.specs.Pairs.{AreFiveWidths, IsFiveAt, IsNearestFive, ShowsFives, element, element_at, element_width, five_elements_at, pair_misfit};
@@ -29,7 +29,7 @@ fn modules_of(digit: u8) -> &'static [u8]
     &FIVES[usize::from(digit)]
 }
 
-/// A width in 1/48 of a mean module, where a pair of digits is so wide; none if it is far more.
+/// A width in 1/48 of a mean module, if a pair of digits is this wide; none if it is far more.
 fn width_in(distance: u32, pair: u32) -> Option<u32>
     ensures value { IfSome result (λ parts. parts ≡ element_width distance pair) }
     ensures few { IfSome result (λ parts. parts ≤ 4096) }
@@ -80,7 +80,7 @@ fn five_of(ends: &[u32], first: usize, colour: usize) -> Option<Five>
     })
 }
 
-/// How wide an element is.
+/// The width of an element.
 fn element(narrow: u32, wide: u32, modules: u8) -> u32
     requires narrow { narrow ≤ 4096 }
     requires wide { wide ≤ 4096 }
@@ -90,7 +90,7 @@ fn element(narrow: u32, wide: u32, modules: u8) -> u32
     if modules == 1 { narrow } else { wide }
 }
 
-/// How far elements are from those of a digit.
+/// The difference between elements and those of a digit.
 fn misfit(seen: Five, narrow: u32, wide: u32, modules: &[u8]) -> u64
     requires one { seen.one ≤ 4096 }
     requires two { seen.two ≤ 4096 }
@@ -110,7 +110,7 @@ fn misfit(seen: Five, narrow: u32, wide: u32, modules: &[u8]) -> u64
         + square_of(seen.five.abs_diff(element(narrow, wide, modules[4])))
 }
 
-/// Whether another digit is less like elements than one whose misfit is known.
+/// Whether another digit fits elements less well than one whose misfit is known.
 fn is_less_like(seen: Five, narrow: u32, wide: u32, own: u64, digit: u8, other: u8) -> bool
     requires one { seen.one ≤ 4096 }
     requires two { seen.two ≤ 4096 }
@@ -128,7 +128,7 @@ fn is_less_like(seen: Five, narrow: u32, wide: u32, own: u64, digit: u8, other: 
 /// The largest misfit of a digit.
 const MOST_MISFIT: u64 = 1296;
 
-/// Whether elements are those of this digit more than of any other, and not too far from them.
+/// Whether elements fit this digit better than any other, and well enough.
 fn is_nearest(seen: Five, narrow: u32, wide: u32, digit: u8) -> bool
     requires one { seen.one ≤ 4096 }
     requires two { seen.two ≤ 4096 }
@@ -183,7 +183,7 @@ fn digit_of(widths: &[u16], first: usize) -> Option<u8>
     None
 }
 
-/// Whether the pair that begins at an end shows the digit of a colour that widths say.
+/// Whether the pair that begins at an end shows, in one colour, the digit that the widths mean.
 fn is_five_at(
     ends: &[u32],
     widths: &[u16],
@@ -211,7 +211,7 @@ fn is_five_at(
 /// The first end of the first pair.
 const FIRST: usize = 4;
 
-/// Of the elements of a colour that have this many modules, of all pairs, the mean width.
+/// The mean width of the elements of a colour that have this many modules, over all pairs.
 fn mean_of(ends: &[u32], widths: &[u16], colour: usize, modules: u16) -> u32
     requires within { 74 < length ends.now }
     requires widths { 75 ≤ length widths.now }

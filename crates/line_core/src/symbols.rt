@@ -8,9 +8,9 @@ use crate::ends::show_ends;
 use crate::lights::has_light;
 use crate::pairs::show_fives;
 
-/// The samples of a line, of which those in `from..to` are of the picture, and those beside them beyond its edge; how far they are apart
-/// in 1/256 dot; the samples at which they turn; the ends between these, in 1/256 dot from the first sample; and the widths in 1/48 module of
-/// the runs between the ends, light first and last.
+/// The samples of a line. Those in `from..to` are in the picture, the others beyond its edge. Their distance is in
+/// 1/256 dot. Further the samples at which they turn; the ends between these, in 1/256 dot from the first sample; and
+/// the widths in 1/48 module of the runs between the ends, light first and last.
 #[derive(Clone, Copy)]
 pub struct Bars<'a> {
     pub values: &'a [u32],
@@ -22,7 +22,8 @@ pub struct Bars<'a> {
     pub widths: &'a [u16],
 }
 
-/// Whether bars show EAN of two halves of so many digits, with so many half modules of light, if need be up to the edge of the picture.
+/// Whether bars show an EAN with two halves of this many digits and this many half modules of light, if necessary up
+/// to the edge of the picture.
 fn shows_ean(bars: &Bars, digits: usize, quiet: u16, edge: bool) -> bool
     requires { digits ≤ 6 }
     ensures { IsTrue result → ShowsEan bars.now.values.now bars.now.from bars.now.to bars.now.step bars.now.turns.now bars.now.ends.now bars.now.widths.now digits quiet edge }
@@ -52,7 +53,7 @@ fn shows_upce(bars: &Bars) -> bool
     has_light(bars, 3, 23, 4, 14, 5, false)
 }
 
-/// Whether they show Code 128 of so many characters, the last of which is the stop character.
+/// Whether they show Code 128 with this many characters; the last one is the stop character.
 fn shows_code(bars: &Bars, characters: usize) -> bool
     requires { characters ≤ 100 }
     ensures { IsTrue result → ShowsCode bars.now.values.now bars.now.from bars.now.to bars.now.step bars.now.turns.now bars.now.ends.now bars.now.widths.now characters }
@@ -66,7 +67,7 @@ fn shows_code(bars: &Bars, characters: usize) -> bool
     has_light(bars, 0, 6 * (characters - 1), 6, 22, 5, true)
 }
 
-/// Whether they show Code 128 of as many characters as the widths have room for.
+/// Whether they show Code 128 with as many characters as the widths have room for.
 fn shows_any_code(bars: &Bars) -> bool
     ensures { IsTrue result → ShowsAnyCode bars.now.values.now bars.now.from bars.now.to bars.now.step bars.now.turns.now bars.now.ends.now bars.now.widths.now }
 {
@@ -90,7 +91,8 @@ fn shows_itf(bars: &Bars) -> bool
     has_light(bars, 4, 64, 10, 34, 5, true)
 }
 
-/// Whether each character that the widths say is nearer to its pattern than every other of its alphabet, and beside the bars is light.
+/// Whether each character of the widths is closer to its own pattern than to any other of its alphabet, and there is
+/// light beside the bars.
 fn shows_symbol(bars: &Bars) -> bool
     ensures { IsTrue result → ShowsWidths bars.now.values.now bars.now.from bars.now.to bars.now.step bars.now.turns.now bars.now.ends.now bars.now.widths.now }
 {
@@ -109,7 +111,8 @@ fn shows_symbol(bars: &Bars) -> bool
     shows_itf(bars)
 }
 
-/// Whether samples show the bars of the symbol with these widths: each end is between a dark and a light extreme that are next to each other.
+/// Whether samples show the bars of the symbol with these widths: each end lies between a dark and a light extreme
+/// that are next to each other.
 pub fn shows_bars(bars: &Bars) -> bool
     ensures { IsTrue result → ShowsBars bars.now.values.now bars.now.from bars.now.to bars.now.step bars.now.turns.now bars.now.ends.now bars.now.widths.now }
 {

@@ -22,7 +22,7 @@ begins_separated (b ∷ text) = (b == 29) || (b == 94)
 abbrev pub begins_with_eight : List ℕ → Bool
 begins_with_eight text = nat_le 8 (length text) && list_all is_ascii_digit (take 8 text)
 
--- with eight digits except eight digits of which the first is 0: they may be an EAN-8 or a UPC-E
+-- with eight digits, except exactly eight that begin with 0: these may be an EAN-8 or a UPC-E
 abbrev pub is_bare : List ℕ → Bool
 is_bare text = begins_with_eight text && not ((length text == 8) && (slice_index text 0 == 48))
 

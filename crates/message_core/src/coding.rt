@@ -14,7 +14,7 @@ fn begins_code(text: &[u8]) -> bool
     }
 }
 
-/// Whether two hexadecimal digits stand behind each `%`.
+/// Whether each `%` is followed by two hexadecimal digits.
 pub(crate) fn is_coded(text: &[u8]) -> bool
     ensures { result ≡ is_coded text.now }
 {
@@ -46,7 +46,7 @@ fn coded_byte(high: u8, low: u8) -> u8
     hex_value(high) * 16 + hex_value(low)
 }
 
-/// What the first byte or code of a text stands for, and what is behind it; `plus` is what a `+` means.
+/// The byte that the first byte or code of a text stands for, and the text behind it; `plus` is the meaning of `+`.
 #[tactic(auto, unfolding(crate::specs::Coding::decoded))]
 fn first_byte(plus: u8, text: &[u8]) -> Option<(u8, &[u8])>
     ensures some { IfSome result (λ p. decoded plus text.now ≡ p.0 ∷ decoded plus p.1.now) }
@@ -61,7 +61,7 @@ fn first_byte(plus: u8, text: &[u8]) -> Option<(u8, &[u8])>
     }
 }
 
-/// The bytes of a text with percent codes in it, if they are at most 192; `plus` is what a `+` means.
+/// The decoded bytes of a text with percent codes, if they are at most 192; `plus` is the meaning of `+`.
 pub(crate) fn decoded(plus: u8, text: &[u8]) -> Option<Text>
     ensures some { IfSome result (λ bytes. bytes.items ≡ decoded plus text.now) }
     ensures few { IfSome result (λ bytes. length bytes.items ≤ 192) }

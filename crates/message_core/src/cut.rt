@@ -1,15 +1,15 @@
-//! Texts that are cut at a place or at a byte.
+//! Splits texts at a place or at a byte.
 ghost use Rattle.std.specs.Prelude.{◌≡◌, ◌==◌, ◌<◌, ◌≤◌, ◌∷◌, ℕ, List, [], drop, length, IfNone, IfSome};
 ghost use Rattle.std.specs.List.{after_first, before_first, position_or_len, slice_split};
 
-/// What follows after this many bytes.
+/// The text after this many bytes.
 pub(crate) fn without_first(many: usize, text: &[u8]) -> &[u8]
     ensures { result.now ≡ drop many text.now }
 {
     text.split_at(text.len().min(many)).1
 }
 
-/// Where the first such byte stands, or the length of the text.
+/// The index of the first such byte, or the length of the text.
 fn place_of(byte: u8, text: &[u8]) -> usize
     ensures value { result ≡ position_or_len (λ b. b == byte) text.now }
     ensures within { result ≤ length text.now }
@@ -22,14 +22,14 @@ fn place_of(byte: u8, text: &[u8]) -> usize
     text.len()
 }
 
-/// What stands before the first such byte, or all.
+/// The text before the first such byte, or all of it.
 pub(crate) fn before(byte: u8, text: &[u8]) -> &[u8]
     ensures { result.now ≡ before_first (λ b. b == byte) text.now }
 {
     &text[..place_of(byte, text)]
 }
 
-/// What stands behind the first such byte, or nothing.
+/// The text behind the first such byte, or nothing.
 pub(crate) fn behind(byte: u8, text: &[u8]) -> &[u8]
     ensures { result.now ≡ after_first (λ b. b == byte) text.now }
 {
@@ -41,7 +41,7 @@ pub(crate) fn behind(byte: u8, text: &[u8]) -> &[u8]
     }
 }
 
-/// The first part of a text that such bytes part, and the text of the others, if there are any.
+/// The first part of a text that is split at such bytes, and the text of the other parts, if there are any.
 pub(crate) fn first_part(byte: u8, text: &[u8]) -> (&[u8], Option<&[u8]>)
     ensures some { IfSome result.1 (λ left. slice_split (λ b. b == byte) text.now ≡ result.0.now ∷ slice_split (λ b. b == byte) left.now) }
     ensures shorter { IfSome result.1 (λ left. length left.now < length text.now) }

@@ -1,4 +1,4 @@
-//! Why a message says nothing.
+//! Why a message has no elements.
 ghost use Rattle.std.specs.Prelude.{◌≡◌};
 ghost use Rattle.digits_core.specs.Refusals.{refusal_text};
 ghost use Rattle.message_core.specs.Faults.{message_fault_text};
@@ -6,14 +6,14 @@ ghost use Rattle.message_core.specs.Faults.{message_fault_text};
 use digits_core::{DigitFault, Refusal, RefusalKind};
 use element_core::ElementFault;
 
-/// Why a message says nothing.
+/// Why a message has no elements.
 #[derive(Clone, Copy, Debug, PartialEq, Eq)]
 pub enum MessageFault {
     /// Its digits are no GTIN.
     Digits(DigitFault),
-    /// Its elements have this fault.
+    /// Its elements have this error.
     Elements(ElementFault),
-    /// It does not begin as a message does that is read, or is no Digital Link where it is to be one.
+    /// It does not begin like any message that is read, or is no Digital Link although its beginning requires one.
     Kind,
 }
 

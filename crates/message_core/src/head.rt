@@ -14,7 +14,7 @@ use crate::symbology::Symbology;
 pub enum Head {
     /// With the identifier of a symbology.
     Symbology(Symbology),
-    /// With a separator, as some scanners send the FNC1 in first place: an element string.
+    /// With a separator, which some scanners send for FNC1 in first position: an element string.
     Separator,
     /// With digits, which are a GTIN.
     Digits,
@@ -22,7 +22,7 @@ pub enum Head {
     Link,
 }
 
-/// Whether a text begins as a symbology identifier does.
+/// Whether a text begins like a symbology identifier.
 fn begins_bracketed(text: &[u8]) -> bool
     ensures { result ≡ begins_bracketed text.now }
 {
@@ -49,14 +49,14 @@ pub(crate) fn are_digits(text: &[u8]) -> bool
     text.iter().all(|byte| byte.is_ascii_digit())
 }
 
-/// Whether a text begins with eight digits, which no width has.
+/// Whether a text begins with eight digits. No width has so many.
 fn begins_with_eight(text: &[u8]) -> bool
     ensures { result ≡ begins_with_eight text.now }
 {
     text.len() >= 8 && are_digits(&text[..8])
 }
 
-/// Whether a text is to be the digits of a GTIN. Eight digits that begin with 0 may be an EAN-8 or a UPC-E: these have
+/// Whether a text must be the digits of a GTIN. Eight digits that begin with 0 may be an EAN-8 or a UPC-E: these have
 /// different GTINs, and often the same check digit.
 fn is_bare(text: &[u8]) -> bool
     ensures { result ≡ is_bare text.now }
@@ -64,14 +64,14 @@ fn is_bare(text: &[u8]) -> bool
     begins_with_eight(text) && !(text.len() == 8 && text[0] == b'0')
 }
 
-/// Whether a field is a message of a scanner. The widths of a row never begin like one.
+/// Whether a field is a message of a scanner. The widths of a row never begin like a message.
 pub fn is_message(text: &[u8]) -> bool
     ensures { result ≡ is_message text.now }
 {
     begins_bracketed(text) || begins_separated(text) || begins_with_eight(text) || begins_link(text)
 }
 
-/// What stands behind an identifier.
+/// The text behind an identifier.
 pub(crate) fn behind_identifier(text: &[u8]) -> &[u8]
     ensures { result.now ≡ drop 3 text.now }
 {
@@ -85,7 +85,8 @@ fn symbology_of(text: &[u8]) -> Option<Symbology>
     Symbology::named(text.split_at(text.len().min(3)).0)
 }
 
-/// How a message begins, or none: it has another identifier, or has none and is nothing that is taken without one.
+/// How a message begins. None if it has another identifier, or if it has none and does not begin like a text that may
+/// come without one.
 pub(crate) fn head_of(text: &[u8]) -> Option<Head>
     ensures { result ≡ head_of text.now }
 {

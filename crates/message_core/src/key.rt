@@ -41,7 +41,7 @@ fn gtin_place(ai: &[u8]) -> Option<u8>
     }
 }
 
-/// The same of a piece of a trade item.
+/// The same for a piece of a trade item.
 fn itip_place(ai: &[u8]) -> Option<u8>
     ensures value { result ≡ itip_place ai.now }
     ensures few { IfSome result (λ place. place < 4) }
@@ -54,7 +54,7 @@ fn itip_place(ai: &[u8]) -> Option<u8>
     }
 }
 
-/// The same of a location.
+/// The same for a location.
 fn location_place(ai: &[u8]) -> Option<u8>
     ensures value { result ≡ location_place ai.now }
     ensures few { IfSome result (λ place. place < 4) }
@@ -66,7 +66,7 @@ fn location_place(ai: &[u8]) -> Option<u8>
     }
 }
 
-/// The same of who is paid.
+/// The same for the party that is paid.
 fn payment_place(ai: &[u8]) -> Option<u8>
     ensures value { result ≡ payment_place ai.now }
     ensures few { IfSome result (λ place. place < 4) }
@@ -77,7 +77,7 @@ fn payment_place(ai: &[u8]) -> Option<u8>
     }
 }
 
-/// The same of a party or an asset.
+/// The same for a party or an asset.
 fn production_place(ai: &[u8]) -> Option<u8>
     ensures value { result ≡ production_place ai.now }
     ensures few { IfSome result (λ place. place < 4) }
@@ -88,7 +88,7 @@ fn production_place(ai: &[u8]) -> Option<u8>
     }
 }
 
-/// The same of a component.
+/// The same for a component.
 fn cpid_place(ai: &[u8]) -> Option<u8>
     ensures value { result ≡ cpid_place ai.now }
     ensures few { IfSome result (λ place. place < 4) }
@@ -99,7 +99,7 @@ fn cpid_place(ai: &[u8]) -> Option<u8>
     }
 }
 
-/// The same of a service relation.
+/// The same for a service relation.
 fn gsrn_place(ai: &[u8]) -> Option<u8>
     ensures value { result ≡ gsrn_place ai.now }
     ensures few { IfSome result (λ place. place < 4) }
@@ -110,8 +110,8 @@ fn gsrn_place(ai: &[u8]) -> Option<u8>
     }
 }
 
-/// The place of a qualifier among those of a key, 0 to 3: they stand in this order, and none must be there (GS1 Digital Link: URI
-/// syntax, section 4.5).
+/// The place of a qualifier among those of a key, 0 to 3. They come in this order, and each may be missing (GS1
+/// Digital Link: URI syntax, section 4.5).
 pub fn place_by(key: &[u8], ai: &[u8]) -> Option<u8>
     ensures value { result ≡ place_by key.now ai.now }
     ensures few { IfSome result (λ place. place < 4) }

@@ -1,10 +1,10 @@
-//! Laws of the definitions: each function does nothing, and its contract is the law.
+//! Laws about the definitions. Each is the contract of a function that does nothing.
 ghost use Rattle.message_core.specs.Laws.{CodesAreRead, KeyPartIs, OneMessage, OneMessageLine, PairsSayElements, UpceIsExpanded};
 
 use digits_core::gtins_are_checked;
 use element_core::{faultless_pairs, gtin_reads, one_list_or_fault, pairs_differ};
 
-/// A message says one thing.
+/// A message has one meaning.
 pub fn one_message()
     ensures { OneMessage }
 {
@@ -18,7 +18,7 @@ pub fn one_message_line()
     one_list_or_fault();
 }
 
-/// Messages with one line of pairs say the same elements behind the same identifier, or are refused alike.
+/// Messages with the same line of pairs have the same elements behind the same identifier, or the same error.
 pub fn pairs_say_elements()
     ensures { PairsSayElements }
 {
@@ -28,17 +28,18 @@ pub fn pairs_say_elements()
     pairs_differ();
 }
 
-/// Behind `]E0` the digit 0, six digits and their check digit say the GTIN that they are a spelling of.
+/// Behind `]E0`, the digit 0, six digits and their check digit mean the GTIN that they abbreviate.
 pub fn upce_is_expanded()
     ensures { UpceIsExpanded }
 {}
 
-/// A path has one part at most that is a key, its value and its qualifiers to the end, whatever stands before it.
+/// A path has at most one part that is a key with its value and, up to the end, its qualifiers, whatever comes before
+/// it.
 pub fn key_part_is()
     ensures { KeyPartIs }
 {}
 
-/// A text with percent codes says what was encoded.
+/// A percent-encoded text decodes to the text that was encoded.
 pub fn codes_are_read()
     ensures { CodesAreRead }
 {}

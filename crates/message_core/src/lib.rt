@@ -1,5 +1,5 @@
-//! The texts of scanners that decode symbols themselves, most of them with a symbology identifier in front.
-//! `tests/using/items.txt` lists what is exported here, and `tests/using/run` fails if the two differ.
+//! Reads the texts of scanners that decode symbols themselves, most with a symbology identifier in front.
+//! `tests/using/items.txt` lists the public items, and `tests/using/run` fails if the two differ.
 #![tactic(auto)]
 
 mod coding;

@@ -12,7 +12,7 @@ use crate::pairs::{Pairs, put_path, put_query};
 use crate::path::key_part;
 use element_core::{ElementFault, Elements, Year};
 
-/// Whether a text begins with small letters or other bytes, each letter in any case.
+/// Whether a text begins with these bytes, where each letter may be small or capital.
 fn begins_any_case(small: &[u8], text: &[u8]) -> bool
     ensures { result ≡ begins_any_case small.now text.now }
 {
@@ -41,14 +41,14 @@ fn begins_https(text: &[u8]) -> bool
     begins_any_case(b"https://", text)
 }
 
-/// Whether a text begins as a URI of the web does.
+/// Whether a text begins like a URI of the web.
 pub(crate) fn begins_link(text: &[u8]) -> bool
     ensures { result ≡ begins_link text.now }
 {
     begins_http(text) || begins_https(text)
 }
 
-/// What stands behind the scheme.
+/// The text behind the scheme.
 fn behind_scheme(text: &[u8]) -> &[u8]
     ensures { result.now ≡ behind_scheme text.now }
 {
@@ -85,7 +85,7 @@ fn is_plain_name(parameter: &[u8]) -> bool
     has_no(b'%', before(b'=', parameter))
 }
 
-/// Whether there is none in the names of a query.
+/// Whether no name of a query has a `%`.
 fn has_plain_names(query: &[u8]) -> bool
     ensures { result ≡ list_all is_plain_name (parameters query.now) }
 {
@@ -102,7 +102,7 @@ fn has_plain_names(query: &[u8]) -> bool
     }
 }
 
-/// Whether a query has no `;`, which some take for a `&`, and its names no `%`.
+/// Whether a query has no `;`, which some programs take for `&`, and no `%` in its names.
 fn is_plain(query: &[u8]) -> bool
     ensures { result ≡ is_plain query.now }
 {
@@ -116,7 +116,7 @@ fn is_graphic(text: &[u8]) -> bool
     text.iter().all(|byte| byte.is_ascii_graphic())
 }
 
-/// Whether a text has bytes of a URI alone, with two hexadecimal digits behind each `%`.
+/// Whether a text has only the bytes of a URI, with two hexadecimal digits behind each `%`.
 fn is_written(text: &[u8]) -> bool
     ensures { result ≡ is_written text.now }
 {
@@ -158,7 +158,7 @@ pub fn is_uri(text: &[u8]) -> bool
     begins_link(text) && is_written(text) && has_host(text) && is_plain(query_of(text))
 }
 
-/// What the elements of a path from its key on and of a query say.
+/// The elements of a path, from its key on, and of a query.
 fn entries_said(path: &[u8], query: &[u8], year: Year) -> Result<Elements, MessageFault>
     ensures { heard result ≡ entries_said year (path_entries (segments path.now) ++ query_entries (parameters query.now)) }
 {
@@ -172,7 +172,7 @@ fn entries_said(path: &[u8], query: &[u8], year: Year) -> Result<Elements, Messa
     }
 }
 
-/// What a Digital Link says.
+/// The elements of a Digital Link.
 pub(crate) fn link_said(text: &[u8], year: Year) -> Result<Elements, MessageFault>
     ensures { heard result ≡ link_said year text.now }
 {

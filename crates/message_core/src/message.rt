@@ -1,4 +1,4 @@
-//! What messages say.
+//! Reads messages.
 ghost use Rattle.std.specs.Prelude.{◌≡◌};
 ghost use Rattle.element_core.specs.Lines.{line_text};
 ghost use Rattle.message_core.specs.Heads.{head_of};
@@ -13,7 +13,7 @@ use crate::upce::upce_said;
 use digits_core::{DigitFault, Gtin};
 use element_core::{Elements, Form, Line, Year};
 
-/// What the digits of a GTIN say.
+/// The elements of a GTIN's digits.
 fn gtin_said(digits: &[u8], year: Year) -> Result<Elements, MessageFault>
     ensures { heard result ≡ gtin_said digits.now }
 {
@@ -23,8 +23,8 @@ fn gtin_said(digits: &[u8], year: Year) -> Result<Elements, MessageFault>
     }
 }
 
-/// The same of an EAN-13, a UPC-A or a UPC-E: a GTIN of 13 or of 12 digits, or the eight of a UPC-E as they stand in
-/// the symbol, whose GTIN has other digits.
+/// The same for an EAN-13, a UPC-A or a UPC-E: a GTIN of 13 or of 12 digits, or the eight digits of a UPC-E as they
+/// are printed under the symbol. The GTIN of a UPC-E has other digits.
 fn ean_upc_said(digits: &[u8], year: Year) -> Result<Elements, MessageFault>
     ensures { IsEanUpcSaid digits.now (heard result) }
 {
@@ -35,7 +35,7 @@ fn ean_upc_said(digits: &[u8], year: Year) -> Result<Elements, MessageFault>
     }
 }
 
-/// The same of a symbol that has this many digits.
+/// The same for a symbol with this many digits.
 fn sized_said(size: usize, digits: &[u8], year: Year) -> Result<Elements, MessageFault>
     ensures { heard result ≡ sized_said size digits.now }
 {
@@ -45,7 +45,7 @@ fn sized_said(size: usize, digits: &[u8], year: Year) -> Result<Elements, Messag
     gtin_said(digits, year)
 }
 
-/// What an element string says.
+/// The elements of an element string.
 fn elements_said(text: &[u8], year: Year) -> Result<Elements, MessageFault>
     ensures { IsStringSaid year text.now (heard result) }
 {
@@ -55,7 +55,7 @@ fn elements_said(text: &[u8], year: Year) -> Result<Elements, MessageFault>
     }
 }
 
-/// What a symbol of this symbology says.
+/// The elements of a symbol of this symbology.
 fn symbol_said(symbology: Symbology, said: &[u8], year: Year) -> Result<Elements, MessageFault>
     ensures { IsSymbolSaid symbology year said.now (heard result) }
 {
@@ -72,7 +72,7 @@ fn symbol_said(symbology: Symbology, said: &[u8], year: Year) -> Result<Elements
     }
 }
 
-/// What a message says that has no blanks at its end, by its head.
+/// The elements of a message without blanks at its end, by its head.
 fn head_said(head: Option<Head>, text: &[u8], year: Year) -> Result<Elements, MessageFault>
     ensures { IsHeadSaid year text.now head (heard result) }
 {
@@ -85,7 +85,7 @@ fn head_said(head: Option<Head>, text: &[u8], year: Year) -> Result<Elements, Me
     }
 }
 
-/// The identifier that was sent; `-` stands for none.
+/// The identifier that the scanner sent, or `-` if it sent none.
 fn word_by(head: Option<Head>) -> &'static str
     ensures { result.now ≡ word_by head }
 {
@@ -95,7 +95,7 @@ fn word_by(head: Option<Head>) -> &'static str
     }
 }
 
-/// What a message says.
+/// The meaning of a message.
 #[derive(Debug, Drop)]
 pub struct Message {
     /// How it began: with the identifier of a symbology, or without one.
@@ -104,18 +104,18 @@ pub struct Message {
     pub said: Result<Elements, MessageFault>,
 }
 
-/// What a message says, as a scanner sends it: a symbology identifier (GS1 General Specifications, section
-/// 5.1.3), and behind it
+/// Reads a message, as a scanner sends it: a symbology identifier (GS1 General Specifications, section 5.1.3), and
+/// behind it
 /// - the digits of a GTIN: 12 or 13, or the 8 of a UPC-E (`]E0`); 8 (`]E4`); 14 (`]I1`);
 /// - an element string, whose separator is byte 29 or `^` (`]C1`, `]e0`, `]d2`, `]Q3`, `]J1`);
 /// - a Digital Link (`]Q1`, `]d1`).
 ///
-/// Without an identifier it is an element string if it begins with a separator, a GTIN of 8, 12, 13 or 14 digits if it
-/// begins with eight digits, and a Digital Link if it begins with `http://` or `https://`.
-/// Eight digits that begin with 0 may be an EAN-8 or a UPC-E, so they are `refused 40 Kind`, as any other text is.
+/// Without an identifier it is an element string if it begins with a separator, a GTIN of 8, 12, 13 or 14 digits if
+/// it begins with eight digits, and a Digital Link if it begins with `http://` or `https://`. Eight digits that begin
+/// with 0 may be an EAN-8 or a UPC-E, so they are `refused 40 Kind`, like any other text.
 ///
-/// Blanks, tabs and line ends behind it are ignored, and so is one separator before an element string. The place of an
-/// error is an offset in bytes from there; in a Digital Link it is the index of the element, from 0.
+/// Blanks, tabs and line ends behind it are ignored, and so is one separator before an element string. The place of
+/// an error is the offset in bytes from there; in a Digital Link it is the index of the element, from 0.
 ///
 /// # Examples
 ///
@@ -139,7 +139,8 @@ pub fn read_message(text: &[u8], year: Year) -> Message
 }
 
 impl Message {
-    /// The answer line: the identifier that was sent, or `-`, and the elements in a form; or the refusal.
+    /// The line of the message: the identifier that the scanner sent, or `-`, and the elements in a form; or the
+    /// refusal.
     pub fn line(&self, form: Form) -> Line
         ensures { line_text result ≡ message_text self.now.head form (heard self.now.said) }
     {
@@ -150,7 +151,7 @@ impl Message {
     }
 }
 
-/// The line of what a message says.
+/// The line of a message.
 pub fn message_line(form: Form, text: &[u8], year: Year) -> Line
     ensures { IsMessageLine form year text.now (line_text result) }
 {

@@ -12,7 +12,7 @@ use element_core::{Pair, Text};
 use std::array;
 use std::marker::Model;
 
-/// At most 48 pairs: this many fit into 192 bytes, with a separator between each two.
+/// At most 48 pairs: no more fit into 192 bytes, with a separator between each two.
 #[derive(Drop)]
 pub(crate) struct Pairs {
     items: [Pair; 48],
@@ -143,7 +143,7 @@ fn query_pair(parameter: &[u8]) -> Option<Pair>
     })
 }
 
-/// Whether a name is to be an AI: it is digits.
+/// Whether a name must be an AI: it has only digits.
 fn is_ai(name: &[u8]) -> bool
     ensures { result ≡ is_ai name.now }
 {

@@ -1,11 +1,11 @@
-//! Where the key of a Digital Link stands in the path.
+//! Finds the key of a Digital Link in the path.
 ghost use Rattle.std.specs.Prelude.{◌≡◌, option_map};
 ghost use Rattle.message_core.specs.Links.{follow_all, is_keyed, key_part, segments};
 
 use crate::cut::first_part;
 use crate::key::{is_key, place_by};
 
-/// Whether qualifiers of a key and their values stand here to the end, in their order.
+/// Whether the rest from here on is qualifiers of a key with their values, in their order.
 fn follow_all(key: &[u8], text: &[u8]) -> bool
     ensures { result ≡ follow_all key.now 0 (segments text.now) }
 {
@@ -31,7 +31,7 @@ fn follow_all(key: &[u8], text: &[u8]) -> bool
     }
 }
 
-/// Whether a key, its value and its qualifiers stand here to the end.
+/// Whether the rest from here on is a key, its value and its qualifiers.
 fn is_keyed(text: &[u8]) -> bool
     ensures { result ≡ is_keyed (segments text.now) }
 {
@@ -48,7 +48,7 @@ fn is_keyed(text: &[u8]) -> bool
     }
 }
 
-/// What stands from the key on to the end of a path, if there is one.
+/// The path from the key on, if there is one.
 pub(crate) fn key_part(path: &[u8]) -> Option<&[u8]>
     ensures { option_map (λ part. segments part.now) result ≡ key_part (segments path.now) }
 {

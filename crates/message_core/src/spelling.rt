@@ -1,4 +1,4 @@
-//! Element strings as people and scanners spell them.
+//! Element strings as people and scanners write them.
 ghost use Rattle.std.specs.Prelude.{◌≡◌, ◌≤◌, length, IfErr, IfOk};
 ghost use Rattle.element_core.specs.Elements.{FirstFault, IsElements};
 ghost use Rattle.message_core.specs.Spellings.{spelled, without_separator};
@@ -6,7 +6,7 @@ ghost use Rattle.message_core.specs.Spellings.{spelled, without_separator};
 use crate::head::begins_separated;
 use element_core::{ElementFault, Elements, Text, Year};
 
-/// A text without a separator that begins it.
+/// A text without the separator at its front, if there is one.
 fn without_separator(text: &[u8]) -> &[u8]
     ensures { result.now ≡ without_separator text.now }
 {
@@ -40,7 +40,7 @@ pub fn read_spelled(text: &[u8], year: Year) -> Result<Elements, ElementFault>
     Elements::parse(spelled(text).as_slice(), year)
 }
 
-/// The elements of a message, behind a separator that may begin it.
+/// The elements of a message, without the separator that may be at its front.
 pub(crate) fn read_elements(text: &[u8], year: Year) -> Result<Elements, ElementFault>
     ensures ok { IfOk result (λ es. (es.year ≡ year) × IsElements year (spelled (without_separator text.now)) es.list) }
     ensures err { IfErr result (FirstFault year (spelled (without_separator text.now))) }

@@ -2,7 +2,7 @@
 ghost use Rattle.std.specs.Prelude.{◌≡◌};
 ghost use Rattle.message_core.specs.Symbologies.{identifier_of, symbology_named};
 
-/// The kinds of symbols whose text is taken, each by its identifier (ISO/IEC 15424; GS1 General Specifications,
+/// The kinds of symbols whose text is accepted, by their identifiers (ISO/IEC 15424; GS1 General Specifications,
 /// section 5.1.3).
 #[derive(Clone, Copy, Debug, PartialEq, Eq)]
 pub enum Symbology {

@@ -1,4 +1,4 @@
-//! UPC-E in the eight digits that stand under the symbol.
+//! UPC-E by the eight digits under the symbol.
 ghost use Rattle.std.specs.Prelude.{◌≡◌, None, length, IfErr, IfNone, IfOk};
 ghost use Rattle.digits_core.specs.Digits.{AreAsciiDigits};
 ghost use Rattle.message_core.specs.Faults.{heard};
@@ -8,7 +8,7 @@ use crate::fault::MessageFault;
 use digits_core::{DigitFault, Gtin, not_digits, upce_expand};
 use element_core::{Elements, Year};
 
-/// Why a text is not the digit 0 and seven digits, if it is not.
+/// Why a text is not the digit 0 and seven more digits.
 fn upce_fault(text: &[u8]) -> Option<DigitFault>
     ensures fault { result ≡ upce_fault text.now }
     ensures long { IfNone result (length text.now ≡ 8) }
@@ -26,9 +26,9 @@ fn upce_fault(text: &[u8]) -> Option<DigitFault>
     None
 }
 
-/// The GTIN that a UPC-E stands for, given as it is written under the symbol: the digit 0, six digits and the check
-/// digit, in ASCII (GS1 General Specifications, section 5.2.2.4). Other lengths are refused first, then the first byte
-/// that is no digit, then another first digit (as `Length`), then the check digit.
+/// The GTIN of a UPC-E, given as printed under the symbol: the digit 0, six digits and the check digit, in ASCII (GS1
+/// General Specifications, section 5.2.2.4). It tests the length first, then for a byte that is no digit, then the
+/// first digit (the error is `Length`), then the check digit.
 pub fn read_upce(text: &[u8]) -> Result<Gtin, DigitFault>
     ensures ok { IfOk result (λ gtin. (upce_fault text.now ≡ None) × IsUpceDigits text.now gtin) }
     ensures refused { IfErr result (IsUpceFault text.now) }
@@ -41,7 +41,7 @@ pub fn read_upce(text: &[u8]) -> Result<Gtin, DigitFault>
     upce_expand(six, text[7]).ok_or(DigitFault::CheckDigit)
 }
 
-/// What the digits of a UPC-E say: the GTIN that it stands for.
+/// The elements of a UPC-E: its GTIN.
 pub(crate) fn upce_said(digits: &[u8], year: Year) -> Result<Elements, MessageFault>
     ensures { IsUpceSaid digits.now (heard result) }
 {

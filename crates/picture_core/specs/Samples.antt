@@ -49,7 +49,7 @@ cubic_at picture x y =
 
 -- ---- samples of lines
 
--- how many samples so many dots have, and how far they are apart, in 1/256 dot
+-- how many samples this many dots have, and their distance, in 1/256 dot
 abbrev pub samples_in : Sampling → ℕ → ℕ
 samples_in Dots dots = dots
 samples_in Halves dots = 2 * dots - 1

@@ -1,5 +1,5 @@
-//! The calls of the libraries that take memory, each made again where it was refused: what is printed is the same
-//! whichever call was refused, once in a run. And `serve`, whose first refusal is told.
+//! Makes the library calls that take memory, and repeats each if memory was refused: the output is the same whichever
+//! call was refused, once in a run. It also calls `serve`, and reports its first refusal.
 #![tactic(auto)]
 
 ghost use Rattle.std.specs.Prelude.{◌≡◌, ◌<◌, IfSome, length};
@@ -29,7 +29,7 @@ const EAN8: &[u16] = &[
     1, 1, 3, 1, 2, 1, 1, 3, 2, 1, 1, 1, 7,
 ];
 
-// Two images of one row, the second of which is dark.
+// Two images of one row; the second is dark.
 const IMAGES: &[u8] = b"P4\n8 1\n\x00P4\n8 1\n\xFF";
 
 /// The row of these widths.
@@ -40,7 +40,7 @@ fn row(alloc: Global, widths: &[u16]) -> Option<Runs> {
     }
 }
 
-/// Does the event. Whether it was done.
+/// Performs the event. Returns whether it happened.
 fn step(world: &mut World, event: Event) -> bool
     ensures { length world.new.lanes ≡ length world.old.lanes }
 {
@@ -60,8 +60,8 @@ fn new_world(alloc: Global, year: Year) -> Option<World>
     }
 }
 
-/// Runs the machine of one lane: two rows, the second posted first, so that the first `Hand` finds nothing to hand. How
-/// many of its 14 events were done.
+/// Runs the state machine with one lane. Of two rows the second is posted first, so that the first `Hand` finds
+/// nothing. Returns how many of the 14 events happened.
 fn run_events(world: &mut World, first: Runs, second: Runs) -> u32
     ensures { length world.new.lanes ≡ length world.old.lanes }
 {
@@ -82,7 +82,7 @@ fn run_events(world: &mut World, first: Runs, second: Runs) -> u32
     done.saturating_add(u32::from(step(world, Event::Poll(0))))
 }
 
-/// How many events of the machine were done, and how many rows were polled.
+/// How many events of the state machine happened, and how many deliveries the lane polled.
 fn run_machine(alloc: Global, year: Year) -> Option<(u32, usize)> {
     let first = row(alloc, EAN13)?;
     let second = row(alloc, EAN8)?;
@@ -98,7 +98,7 @@ fn delivery(alloc: Global, number: u32, year: Year) -> Option<Delivery> {
     Some(decode(Job { ticket, row, year }))
 }
 
-/// Takes the delivery in. Whether it was taken.
+/// Takes the delivery in. Returns whether it succeeded.
 fn take_in(deliverer: &mut Deliverer, delivery: Delivery) -> bool
     ensures { lanes_of deliverer.new ≡ lanes_of deliverer.old }
 {
@@ -129,7 +129,7 @@ fn take_next(deliverer: &mut Deliverer) -> Option<u32>
         .map(|delivery| delivery.ticket().number)
 }
 
-/// Takes in the deliveries of 2, 1, 0 and 0 again. How many were taken.
+/// Takes in the deliveries 2, 1, 0 and 0 again. Returns how many it took in.
 fn take_in_each(alloc: Global, year: Year, deliverer: &mut Deliverer) -> Option<u32>
     ensures { lanes_of deliverer.new ≡ lanes_of deliverer.old }
 {
@@ -140,7 +140,7 @@ fn take_in_each(alloc: Global, year: Year, deliverer: &mut Deliverer) -> Option<
     Some(taken)
 }
 
-/// How many deliveries were taken in, and what the lane is then given.
+/// How many deliveries it took in, and what the lane gets then.
 fn run_deliverer(alloc: Global, year: Year) -> Option<(u32, [Option<u32>; 4])> {
     let mut deliverer = new_deliverer(alloc)?;
     let taken = take_in_each(alloc, year, &mut deliverer)?;
@@ -151,7 +151,8 @@ fn run_deliverer(alloc: Global, year: Year) -> Option<(u32, [Option<u32>; 4])> {
     Some((taken, [first, second, third, fourth]))
 }
 
-/// What becomes of the next delivery of a hub. Where memory was refused it stays in hand, and it may be collected again.
+/// What happens to the next delivery of a hub. If memory is refused, it stays in hand, and a further call may collect
+/// it.
 fn collect<R: Wait>(rt: &R, hub: &mut OpenHub, again: bool) -> Collected {
     match hub.collect(rt) {
         Collected::NoMemory if again => hub.collect(rt),
@@ -159,9 +160,9 @@ fn collect<R: Wait>(rt: &R, hub: &mut OpenHub, again: bool) -> Collected {
     }
 }
 
-/// Sends three rows through a hub, of which number 0 is collected, number 1 stays in a worker's hand, and number 2 is
-/// posted, so that it comes before its lane's next and room is to be made for it. What became of it when it was
-/// collected; none where memory was refused to a row.
+/// Sends three rows through a hub. Row 0 is collected, row 1 stays in a worker's hand, and row 2 is posted, so it
+/// comes before its lane's next and needs memory. Returns what happened to it when it was collected, or none if a row
+/// was refused memory.
 fn send<R: Wait>(rt: &R, alloc: Global, hub: &mut OpenHub, again: bool) -> Option<Collected> {
     hub.offer(rt, 0, row(alloc, EAN13)?).ok()?.ok()?;
     hub.work(rt, 0).ok()?;
@@ -174,9 +175,9 @@ fn send<R: Wait>(rt: &R, alloc: Global, hub: &mut OpenHub, again: bool) -> Optio
     Some(collect(rt, hub, again))
 }
 
-/// A hub of one lane that three rows are sent through, and that is settled. What became of the last when it was
-/// collected, and how many deliveries settling gave, 0 where it was refused twice; none where memory was refused to the
-/// making of the hub, to a row or to the closing of the lane.
+/// Sends three rows through a hub with one lane, and settles it. Returns what happened to the last delivery when it
+/// was collected, and how many deliveries `settle` returned, 0 if it was refused twice. None if the hub, a row or the
+/// closing of the lane was refused memory.
 fn try_hub<R: Wait>(rt: &R, alloc: Global, again: bool) -> Option<(Collected, usize)> {
     let shape = Shape {
         lanes: 1,
@@ -193,7 +194,7 @@ fn try_hub<R: Wait>(rt: &R, alloc: Global, again: bool) -> Option<(Collected, us
     Some((collected, settled))
 }
 
-/// The same, from the beginning again where there was none.
+/// The same, once more from the beginning if there was none.
 fn run_hub<R: Wait>(rt: &R, alloc: Global, again: bool) -> Option<(Collected, usize)> {
     match try_hub(rt, alloc, again) {
         Some(found) => Some(found),
@@ -221,7 +222,7 @@ fn count_runs(alloc: Global, sheet: &Sheet) -> Option<usize> {
     }
 }
 
-/// Writes the labels' images. Whether they were written.
+/// Writes the images of the labels. Returns whether it succeeded.
 fn write_images<W: Sink>(alloc: Global, labels: &[Label], grid: Grid, sink: &mut W) -> bool {
     match print_pbm(alloc, labels, grid, sink) {
         Ok(()) => true,
@@ -241,7 +242,7 @@ fn count_sheets(alloc: Global, images: &[u8]) -> Option<usize> {
     Some(sheets.len())
 }
 
-/// Serves three rows of a lane, of which the second is posted before the first. How many deliveries there are.
+/// Serves three rows of a lane; the second is posted before the first. Returns how many deliveries there are.
 fn served<R: Threads + Wait + Sync>(
     rt: &R,
     alloc: Global,
@@ -267,7 +268,7 @@ fn served<R: Threads + Wait + Sync>(
     Ok(lists.first().map_or(0, |list| list.len()))
 }
 
-/// With no input it makes each call again. With some it serves three rows, and ends as a command does.
+/// Without input it repeats each call that was refused. With input it serves three rows, and ends as a command does.
 fn main(rt: HostRuntime) -> io::Result<ExitCode> {
     let alloc = rt.alloc();
     let (Some(year), Ok(gtin), Ok(grid)) = (

@@ -1,4 +1,4 @@
--- What the reader of a row comes by on its way to the answer.
+-- The intermediate results of reading a row.
 use Rattle.std.specs.Prelude.{⊤, ℕ, List, Option, Some, None}
 use Rattle.ean_code.specs.Spelling.{IsSpelled}
 use Rattle.ean_code.specs.declared.kind.Kind.{Kind}

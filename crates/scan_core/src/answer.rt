@@ -1,4 +1,4 @@
-//! What a row says.
+//! The answer to a row.
 ghost use Rattle.std.specs.Prelude.{None, Some, ◌≡◌, ◌≢◌, ◌++◌, IfErr, IfOk, OnOk, ℕ, length, string_bytes, sum};
 ghost use Rattle.scan_core.specs.Answers.{IsAnswer};
 ghost use Rattle.scan_core.specs.Lines.{said};
@@ -19,22 +19,22 @@ use ean_code::Modules;
 use element_core::{Elements, Form, Year};
 use std::alloc::AllocError;
 
-/// What a row says.
+/// The answer to a row.
 #[derive(Debug, Drop)]
 pub enum Answer {
-    /// The elements that a symbol of this carrier says.
+    /// The row shows a symbol of this carrier with these elements.
     Read {
         /// The symbol's kind.
         carrier: Carrier,
-        /// Its elements, dates under the reference year; of EAN, UPC and ITF-14 the one element of its GTIN.
+        /// Its elements, with dates by the reference year. An EAN, UPC or ITF-14 has one element, its GTIN.
         elements: Elements,
     },
-    /// The row is not read.
+    /// The row shows no symbol, or the symbol has an error.
     Refused(RowFault),
 }
 
-/// Puts what is found, the symbol that the row shows as a candidate, into its place, or answers the stage at which
-/// the row fails as one. Its runs between the light ends are `total` dots.
+/// Tries the row as a symbol of the candidate. Writes the symbol to `found`, or returns the stage at which the row
+/// fails. Its runs between the light ends are `total` dots.
 fn try_candidate(
     widths: &[u16],
     total: u32,
@@ -61,8 +61,8 @@ fn try_candidate(
     Ok(())
 }
 
-/// Puts what is found, the symbol that the row shows as one of the candidates, into its place, or answers the later
-/// one of the stages at which the row fails as them.
+/// Tries the row as a symbol of one candidate and then of the other. Writes the symbol to `found`, or returns the
+/// later of the two stages at which the row fails.
 fn try_both(
     widths: &[u16],
     total: u32,
@@ -88,7 +88,7 @@ fn try_both(
     }
 }
 
-/// Puts what is found, the symbol that the row shows, into its place, or answers why the row is refused.
+/// Writes the symbol that the row shows to `found`, or returns why the row is refused.
 fn find_shown(widths: &[u16], found: &mut Found) -> Result<(), RowFault>
     requires { IsRow widths.now }
     ensures found { OnOk result (IsFound widths.now found.new) }
@@ -107,9 +107,9 @@ fn find_shown(widths: &[u16], found: &mut Found) -> Result<(), RowFault>
     }
 }
 
-/// Puts what is found in the row of these widths into its place.
+/// Writes what is found in the row of these widths to `found`.
 ///
-/// It is written where it is read, since a result is copied by each function that returns it.
+/// It writes in place, since each function that returns a result copies it.
 pub(crate) fn find_into(widths: &[u16], found: &mut Found)
     requires { IsRow widths.now }
     ensures { IsFound widths.now found.new }
@@ -129,7 +129,7 @@ pub(crate) fn found_in(widths: &[u16]) -> Found
     found
 }
 
-/// What the row of these widths says.
+/// The answer to the row of these widths.
 pub(crate) fn answer_in(widths: &[u16], year: Year) -> Answer
     requires { IsRow widths.now }
     ensures { IsAnswer widths.now year result }
@@ -137,11 +137,11 @@ pub(crate) fn answer_in(widths: &[u16], year: Year) -> Answer
     found_in(widths).answer(year)
 }
 
-/// What the row says, read from the left or from the right (GS1 General Specifications, section 5;
-/// ISO/IEC 15420, 16390 and 15417): the elements of the one symbol that it shows, or why it is refused.
+/// Reads a row from the left and from the right (GS1 General Specifications, section 5; ISO/IEC 15420, 16390 and
+/// 15417). The answer has the elements of the only symbol that the row shows, or the reason why it is refused.
 ///
-/// A run is rounded to the nearest number of modules, by at most a third of one; the symbol's own
-/// width says how wide a module is. Both light ends have to be five modules wide.
+/// Each run is rounded to the nearest number of modules and may be off by a third of a module. The width of a module
+/// follows from the width of the symbol. Both light ends must be at least five modules wide.
 pub fn read_row(runs: &Runs, year: Year) -> Answer
     ensures { IsAnswer runs.now year result }
 {
@@ -151,7 +151,7 @@ pub fn read_row(runs: &Runs, year: Year) -> Answer
     }
 }
 
-/// Appends what the row says, as `read_row` reads it, with its elements in a form.
+/// Appends the line of the answer of `read_row`, with its elements in a form.
 pub fn push_row(runs: &Runs, year: Year, form: Form, text: &mut String) -> Result<(), AllocError>
     ensures { OnOk result ((answer : Answer) × IsAnswer runs.now year answer × (string_bytes text.new ≡ string_bytes text.old ++ said form answer)) }
 {
@@ -166,7 +166,7 @@ pub fn push_row(runs: &Runs, year: Year, form: Form, text: &mut String) -> Resul
     }
 }
 
-/// What is found in the row of these widths in dots, or why they are no row. No memory is taken.
+/// Finds the symbol in the row of these widths in dots, or says why they are no row. Takes no memory.
 pub fn find_widths(widths: &[u16]) -> Result<Found, RunFault>
     ensures ok { IfOk result (IsFound widths.now) }
     ensures taken { OnOk result (runs_fault widths.now ≡ None) }
@@ -178,8 +178,7 @@ pub fn find_widths(widths: &[u16]) -> Result<Found, RunFault>
     }
 }
 
-/// What the row of these widths in dots says, as `read_row` does, or why they are no row. No memory is
-/// taken.
+/// Reads the row of these widths in dots as `read_row` does, or says why they are no row. Takes no memory.
 ///
 /// # Examples
 ///

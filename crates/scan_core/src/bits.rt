@@ -1,10 +1,10 @@
-//! Dots that are packed in bytes, each with its first dot in the high bit; 1 is dark.
+//! Dots packed in bytes. The first dot of a byte is its high bit; 1 is dark.
 ghost use Rattle.std.specs.Prelude.{◌≡◌, ◌<◌, ◌≤◌, ◌+◌, ◌-◌, ◌*◌, ◌/◌, ◌%◌, ℕ, length, slice_index};
 ghost use Rattle.std.specs.Int.{bit_at};
 ghost use Rattle.scan_core.specs.Bits.{dot_at};
 ghost use Rattle.scan_core.specs.inner.Cutting.{coloured};
 
-/// The bytes as one number, the first the highest.
+/// The bytes as one number, big-endian.
 fn number_of(bytes: [u8; 8]) -> u64
     ensures { (k : ℕ) → k < 64 → bit_at result (63 - k) ≡ bit_at (slice_index bytes (k / 8)) (7 - k % 8) }
 {
@@ -13,7 +13,7 @@ fn number_of(bytes: [u8; 8]) -> u64
     u64::from(high) * 0x1_0000_0000 + u64::from(low)
 }
 
-/// The last bytes, eight at most, as one number, the first the highest, with zeros behind them.
+/// The last bytes, eight at most, as one number, big-endian, with zeros behind them.
 #[cold]
 fn last_word(bits: &[u8], byte: usize) -> u64
     requires within { byte ≤ length bits.now }
@@ -27,7 +27,7 @@ fn last_word(bits: &[u8], byte: usize) -> u64
     number_of(bytes)
 }
 
-/// The 64 dots from this byte on, the first in the high bit. Behind the last byte they are light.
+/// The 64 dots from this byte on, the first in the high bit. Dots behind the last byte are light.
 fn word_at(bits: &[u8], byte: usize) -> u64
     requires { byte < length bits.now }
     ensures { (k : ℕ) → k < 64 → byte + k / 8 < length bits.now → bit_at result (63 - k) ≡ bit_at (slice_index bits.now (byte + k / 8)) (7 - k % 8) }
@@ -47,8 +47,8 @@ fn word_at(bits: &[u8], byte: usize) -> u64
     ])
 }
 
-/// The dots from the dot `from + at` on, up to the end of eight bytes, the first in the high bit: a bit is 1 if
-/// its dot does not have this colour.
+/// The dots from dot `from + at` up to the end of eight bytes, the first in the high bit. A bit is 1 if its dot has
+/// the other colour.
 pub(crate) fn others_from(bits: &[u8], from: usize, at: usize, dark: bool) -> u64
     requires within { from + at < 8 * length bits.now }
     requires few { at ≤ 65535 }
@@ -59,7 +59,7 @@ pub(crate) fn others_from(bits: &[u8], from: usize, at: usize, dark: bool) -> u6
     if dark { !dots } else { dots }
 }
 
-/// How many bits of the word are 0 before the first 1 from the left.
+/// How many leading zeros the word has.
 pub(crate) fn zeros_before(word: u64) -> usize
     ensures within { result ≤ 64 }
     ensures zeros { (k : ℕ) → k < result → bit_at word (63 - k) ≡ 0 }

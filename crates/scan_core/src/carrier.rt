@@ -7,7 +7,7 @@ use ean_code::Kind;
 /// A kind of symbol that a row can show.
 #[derive(Clone, Copy, Debug, PartialEq, Eq)]
 pub enum Carrier {
-    /// EAN-13 (ISO/IEC 15420), and UPC-A as one: 59 runs, 95 modules wide.
+    /// EAN-13 (ISO/IEC 15420), which includes UPC-A: 59 runs, 95 modules wide.
     Ean13,
     /// EAN-8 (ISO/IEC 15420): 43 runs, 67 modules wide.
     Ean8,
@@ -15,13 +15,13 @@ pub enum Carrier {
     UpcE,
     /// ITF-14 (ISO/IEC 16390): 77 runs, 135 modules wide if a wide element is three modules.
     Itf14,
-    /// GS1-128 (ISO/IEC 15417): of k start, data and check characters, k from 3 to 98, 6k + 7 runs,
+    /// GS1-128 (ISO/IEC 15417). With k start, data and check characters, k from 3 to 98, it has 6k + 7 runs and is
     /// 11k + 13 modules wide.
     Gs1128,
 }
 
 impl Carrier {
-    /// The kind of its symbols, if they show a GTIN alone.
+    /// The kind of its symbols, if they show only a GTIN.
     pub fn kind(self) -> Option<Kind>
         ensures { result ≡ kind_of self }
     {
@@ -47,7 +47,7 @@ impl Carrier {
     }
 }
 
-/// A carrier whose symbols have as many runs as a row.
+/// A carrier whose symbols have as many runs as the row.
 #[derive(Clone, Copy)]
 pub(crate) struct Candidate {
     pub(crate) carrier: Carrier,

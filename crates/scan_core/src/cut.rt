@@ -1,4 +1,4 @@
-//! Rows of packed dots cut into runs.
+//! Cuts rows of packed dots into runs.
 ghost use Rattle.std.specs.Prelude.{◌≡◌, ◌<◌, ◌≤◌, ◌+◌, ◌*◌, ◌++◌, ◌∷◌, [], List, ℕ, IfOk, OnErr, OnOk, length};
 ghost use Rattle.scan_core.specs.Bits.{dots_at};
 ghost use Rattle.scan_core.specs.inner.Cutting.{Cut, IsFrontOf, IsRowOf};
@@ -10,11 +10,11 @@ use arrayvec::ArrayVec;
 #[derive(Clone, Copy)]
 pub(crate) struct NoRoom;
 
-/// What the runs of a row are put into, from the left.
+/// A list that takes the runs of a row, from the left.
 pub(crate) trait RunList {
-    // The runs that were put into it.
+    // The runs in it.
     ghost runs: { Self → List ℕ };
-    // It may have no room for one more.
+    // It may have no room for another run.
     ghost MayBeFull: { Self → Type 0 };
 
     /// Puts a run at the end.
@@ -34,15 +34,14 @@ impl<const MOST: usize> RunList for ArrayVec<u16, MOST> {
     }
 }
 
-/// The run that the last dot so far is in, and how many dots it has so far.
+/// The run of the last dot so far, and how many dots it has so far.
 #[derive(Drop)]
 struct Run {
     width: usize,
     dark: bool,
 }
 
-/// Cuts the next dots of the row, from the dot `at` on, up to the end of their eight bytes. Returns the dot behind
-/// them.
+/// Cuts the dots of the row from dot `at` up to the end of their eight bytes. Returns the index of the next dot.
 fn cut_word<R: RunList>(
     bits: &[u8],
     from: usize,
@@ -79,8 +78,8 @@ fn cut_word<R: RunList>(
     Ok(end)
 }
 
-/// Cuts the row of `width` dots of packed bytes, from the dot `from` on, into its runs, from the left, as long as
-/// there is room for them. A byte has its first dot in its high bit, and 1 is dark.
+/// Cuts the row of `width` dots of packed bytes, from dot `from` on, into runs, from the left, as long as there is
+/// room for them. The first dot of a byte is its high bit; 1 is dark.
 pub(crate) fn cut_into<R: RunList>(
     bits: &[u8],
     from: usize,

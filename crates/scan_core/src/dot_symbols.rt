@@ -1,4 +1,4 @@
-//! Every symbol of a row of packed dots, with no memory taken.
+//! Finds every symbol of a row of packed dots without memory.
 ghost use Rattle.std.specs.Prelude.{◌≡◌, ◌≤◌, ◌+◌, ◌*◌, ◌%◌, IfNone, IfSome, length, true};
 ghost use Rattle.scan_core.specs.Bits.{dots_at};
 ghost use Rattle.scan_core.specs.Row.{IsRow, dots_of};
@@ -14,10 +14,10 @@ use crate::window::Window;
 use element_core::Year;
 use std::marker::Model;
 
-/// A window that is read and begins with this run of a part, or before it, ends in the part.
+/// A symbol that begins at or before this run of a part ends in the part.
 const LAST_FIRST: usize = 598;
 
-/// The light run after it, with which the next part begins.
+/// The light run after it. The next part begins with it.
 const STEP: usize = 600;
 
 /// A part of a row: its first runs from one on.
@@ -31,7 +31,7 @@ struct Section {
 }
 
 impl Section {
-    /// Goes on to the part that begins 600 runs further right.
+    /// Moves on to the part that begins 600 runs further right.
     fn go_on(&mut self, bits: &[u8], width: usize)
         requires enough { width ≤ 8 * length bits.now }
         requires few { width ≤ 65535 }
@@ -46,8 +46,7 @@ impl Section {
     }
 }
 
-/// The next symbol of a part of a row that has more, where it begins so early that none before it ends behind
-/// the part.
+/// The next symbol of a part, if it begins so early that no symbol before it ends behind the part.
 fn next_early(runs: &FirstRuns, first: usize, least: usize, year: Year) -> Option<Window>
     requires row { IsRow runs.now.widths.items }
     requires light { first % 2 ≡ 0 }
@@ -64,8 +63,8 @@ fn next_early(runs: &FirstRuns, first: usize, least: usize, year: Year) -> Optio
     }
 }
 
-/// The next symbol in a part, which begins after this run of it, or at it with this many runs at least, or in
-/// the parts behind it.
+/// The next symbol in a part that begins after this run, or at it with at least this many runs; or else in the parts
+/// behind it.
 fn next_in_parts(
     bits: &[u8],
     width: usize,
@@ -105,17 +104,17 @@ fn next_in_parts(
     )
 }
 
-/// The search of a row of packed dots for its symbols, from the left. No memory is taken: of the row, which may
-/// have 65,537 runs, it keeps a part.
+/// Searches a row of packed dots for its symbols, from left to right. It takes no memory: of the row, which may have
+/// 65,537 runs, it keeps only a part.
 #[derive(Drop)]
 pub struct DotSymbols<'a> {
     bits: &'a [u8],
     width: u16,
     year: Year,
     part: Section,
-    /// Windows that begin before this run of the part are passed.
+    /// The search has passed all windows that begin before this run of the part.
     first: usize,
-    /// So are those that begin at it and have fewer runs.
+    /// It has also passed those that begin at this run and have fewer runs.
     least: usize,
 }
 
@@ -133,8 +132,7 @@ impl<'a> Model for DotSymbols<'a> {
 }
 
 impl<'a> DotSymbols<'a> {
-    /// The search of the row of `width` dots of packed bytes. A byte has its first dot in its high bit, and 1 is
-    /// dark.
+    /// Searches the row of `width` dots of packed bytes. The first dot of a byte is its high bit; 1 is dark.
     pub fn of_dots(bits: &'a [u8], width: u16, year: Year) -> DotSymbols<'a>
         requires { width ≤ 8 * length bits.now }
         ensures all { result ≡ search_of result.runs year }

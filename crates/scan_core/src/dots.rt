@@ -1,4 +1,4 @@
-//! What a row of packed dots says, with no memory taken.
+//! Reads a row of packed dots without memory.
 ghost use Rattle.std.specs.Prelude.{◌≡◌, ◌≤◌, ◌+◌, ◌*◌, ◌++◌, ◌∷◌, [], List, ℕ, length};
 ghost use Rattle.scan_core.specs.Answers.{IsAnswer};
 ghost use Rattle.scan_core.specs.Bits.{dots_at};
@@ -13,8 +13,8 @@ use crate::found::Found;
 use arrayvec::ArrayVec;
 use element_core::Year;
 
-/// This many runs that the longest symbol with its light ends, of 597 runs, is among them where it begins with
-/// run 598 or before.
+/// The number of runs that a part keeps. The longest symbol has 597 runs with its light ends, so it is within a part
+/// if it begins with run 598 or before.
 const MOST: usize = 1_195;
 
 /// The first runs of a row.
@@ -39,8 +39,8 @@ pub(crate) fn first_runs(bits: &[u8], from: usize, width: usize) -> FirstRuns
     first
 }
 
-/// What is found in the row of `width` dots of packed bytes. A byte has its first dot in its high bit, and 1 is
-/// dark. No memory is taken.
+/// Finds the symbol in the row of `width` dots of packed bytes. The first dot of a byte is its high bit; 1 is dark.
+/// Takes no memory.
 pub fn find_dots(bits: &[u8], width: u16) -> Found
     requires { width ≤ 8 * length bits.now }
     ensures { (runs : List ℕ) × IsRow runs × (dots_of runs ≡ dots_at bits.now 0 width) × IsFound runs result }
@@ -52,8 +52,8 @@ pub fn find_dots(bits: &[u8], width: u16) -> Found
     found_in(first.widths.as_slice())
 }
 
-/// What the row of `width` dots of packed bytes says, as `read_row` does of the row that `Runs::cut`
-/// makes of them. A byte has its first dot in its high bit, and 1 is dark. No memory is taken.
+/// Reads the row of `width` dots of packed bytes, as `read_row` reads the row that `Runs::cut` makes of them. The
+/// first dot of a byte is its high bit; 1 is dark. Takes no memory.
 ///
 /// # Examples
 ///

@@ -34,26 +34,26 @@ impl<T: Drop> From<AllocFailed<T>> for RunFault {
 
 /// Why a row is not read: the first of these tests that it fails.
 ///
-/// `QuietZone`, `Modules` and `Pattern` are made for a carrier whose symbols have as many runs. With
-/// 43 runs there are two; if the row is a symbol of neither, the later one of their faults is
-/// reported. The tests after them are of the one symbol that the row shows.
+/// `QuietZone`, `Modules` and `Pattern` test the row as a symbol of a carrier with as many runs. For 43 runs there
+/// are two such carriers; if the row is a symbol of neither, the error is the later of the two. The tests after them
+/// are for the only symbol that the row shows.
 #[derive(Clone, Copy, Debug, PartialEq, Eq)]
 pub enum RowFault {
     /// No dot is dark.
     Blank,
-    /// No carrier has as many runs.
+    /// No carrier has this many runs.
     RunCount,
     /// A light end, its quiet zone, is narrower than five modules.
     QuietZone,
-    /// A run is more than a third of a module away from each of 1, 2, 3 and 4 modules.
+    /// A run differs by more than a third of a module from each of 1, 2, 3 and 4 modules.
     Modules,
-    /// The modules are no symbol of the carrier, whichever way they are read.
+    /// The modules are no symbol of the carrier, in either direction.
     Pattern,
     /// The check digit that the symbol shows is not that of its number.
     SymbolCheckDigit,
-    /// The values of the Code 128 symbol say no text.
+    /// The values of the Code 128 symbol have no text.
     Code128(Code128Fault),
-    /// The text of the symbol is no element string; the place is an offset in the text.
+    /// The text of the symbol is no element string. The place is an offset in the text.
     Elements(ElementFault),
 }
 

@@ -1,4 +1,4 @@
-//! What is found in a row before its elements are made.
+//! What is found in a row, before its elements are computed.
 ghost use Rattle.std.specs.Prelude.{◌≡◌, ◌++◌, ◌∷◌, List, OnOk, string_bytes, true, ℕ};
 ghost use Rattle.element_core.specs.Lines.{line_text};
 ghost use Rattle.element_core.specs.Terms.{Terms};
@@ -18,10 +18,10 @@ use digits_core::Gtin;
 use element_core::{Elements, Form, Line, Year, elements_line, push_gtin_element, write_hri};
 use std::alloc::AllocError;
 
-/// What is found in a row: the symbol that it shows, or why it is refused. The row's answer is made of it.
+/// What is found in a row: the symbol that it shows, or why it is refused. It determines the answer to the row.
 ///
-/// It is little more than half as large as an answer, since the characters of a symbol take less room than
-/// their text may.
+/// It is little more than half as large as an answer, since the characters of a symbol take less room than their text
+/// may.
 #[derive(Debug, Drop)]
 pub enum Found {
     /// A symbol of EAN, UPC or ITF-14, of this GTIN.
@@ -32,7 +32,7 @@ pub enum Found {
     Refused(RowFault),
 }
 
-/// The elements that the values of a Code 128 symbol say, dates under the reference year.
+/// The elements that the values of a Code 128 symbol mean, with dates by the reference year.
 fn elements_of(values: &Values, year: Year) -> Result<Elements, RowFault>
     ensures { IsReadAs year (text_in values.now) result }
 {
@@ -55,7 +55,7 @@ fn push_number(
     push_gtin_element(carrier.identifier(), gtin, form, text)
 }
 
-/// Appends the line of a symbol of Code 128, dates under the reference year.
+/// Appends the line of a symbol of Code 128, with dates by the reference year.
 #[inline(never)]
 fn push_characters(
     carrier: Carrier,
@@ -74,7 +74,7 @@ fn push_characters(
     }
 }
 
-/// Appends the line of a symbol of Code 128 whose elements these are, in the human-readable form.
+/// Appends the line of a symbol of Code 128 with these elements, in the human-readable form.
 pub(crate) fn push_said(carrier: Carrier, said: &str, text: &mut String) -> Result<(), AllocError>
     ensures { OnOk result (string_bytes text.new ≡ string_bytes text.old ++ (identifier carrier ++ (32 ∷ said.now))) }
 {
@@ -83,8 +83,8 @@ pub(crate) fn push_said(carrier: Carrier, said: &str, text: &mut String) -> Resu
     text.push_str(said)
 }
 
-/// Puts the elements that the values of a Code 128 symbol say, dates under the reference year, into a text in the
-/// human-readable form, and answers whether they say any.
+/// Appends the elements of a Code 128 symbol to a text in the human-readable form, with dates by the reference year.
+/// Returns whether there are any.
 #[inline(never)]
 fn put_elements(values: &Values, year: Year, said: &mut ArrayString<288>) -> bool
     ensures { result ≡ true → AreElementsOf year values.now said.new.bytes }
@@ -104,7 +104,7 @@ fn push_refusal(fault: RowFault, text: &mut String) -> Result<(), AllocError>
 }
 
 impl Found {
-    /// What the row says in which this was found, dates under the reference year.
+    /// The answer to the row in which this was found, with dates by the reference year.
     pub fn answer(&self, year: Year) -> Answer
         ensures { (runs : List ℕ) → IsFound runs self.now → IsAnswer runs year result }
     {
@@ -124,8 +124,8 @@ impl Found {
         }
     }
 
-    /// Puts the elements of characters into a text in the human-readable form, dates under the reference year. Answers
-    /// the year if there are any.
+    /// Writes the elements of characters to a text in the human-readable form, with dates by the reference year.
+    /// Returns the year if there are any.
     pub(crate) fn say(&self, year: Year, said: &mut ArrayString<288>) -> Option<Year>
         ensures { AreElementsIf result self.now said.new.bytes }
     {
@@ -141,8 +141,8 @@ impl Found {
         }
     }
 
-    /// The line of what the row says in which this was found, with its elements in a form. They are written while
-    /// they are read, and a GTIN as its digits.
+    /// The line of the answer to the row in which this was found, with its elements in a form. It writes elements
+    /// while it reads them, and a GTIN as its digits.
     pub fn line(&self, year: Year, form: Form) -> Line
         ensures { (answer : Answer) × ((runs : List ℕ) → IsFound runs self.now → IsAnswer runs year answer) × (line_text result ≡ said form answer) }
     {
@@ -156,8 +156,8 @@ impl Found {
         }
     }
 
-    /// Appends that line. Each case appends its line where it makes it, since a line that is returned is copied. Each
-    /// is a function of its own, since a function clears the room of all its lines when it begins.
+    /// Appends that line. Each case appends its own line, since a line that is returned is copied. Each is a function
+    /// of its own, since a function clears the room of all its lines when it begins.
     pub(crate) fn push_line(
         &self,
         year: Year,

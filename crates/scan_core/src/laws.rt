@@ -1,10 +1,10 @@
-//! Laws about the definitions, each the contract of a function that does nothing.
+//! Laws about the definitions. Each is the contract of a function that does nothing.
 ghost use Rattle.scan_core.specs.BeforeItf14.{OtherRowsKeep};
 ghost use Rattle.scan_core.specs.Ratios.{EachRatioIsRead};
 ghost use Rattle.scan_core.specs.Laws.{DotsDetermine, DotsMakeRow, NeverTooLong, OneAnswer, OneSymbol, ReplacedCharacterIsNoticed, ReplacementIsNoticed, RowOrFault, SymbolMeasures, TurnedDots, TurnedRow};
 ghost use Rattle.scan_core.specs.Windows.{SymbolsAreTold, TurnedSymbols, WholeRow};
 
-/// A row shows at most one symbol, and reads as it in one way.
+/// A row shows at most one symbol, and reads as that symbol in one direction only.
 pub fn one_symbol()
     ensures { OneSymbol }
 {
@@ -13,7 +13,7 @@ pub fn one_symbol()
     code128_code::measures();
 }
 
-/// A row has at most one answer; `read_row` shows that it has one.
+/// A row has at most one answer. That it has one is the contract of `read_row`.
 pub fn one_answer()
     ensures { OneAnswer }
 {
@@ -25,28 +25,27 @@ pub fn one_answer()
     element_core::one_list_or_fault();
 }
 
-/// A row turned end for end has the same answer.
+/// A row that is reversed has the same answer.
 pub fn turned_row()
     ensures { TurnedRow }
 {}
 
-/// One character replaced by another of its number set is noticed by the check digit: any of an
-/// EAN-13 or EAN-8, and one of the first five of a UPC-E. So is one digit of an ITF-14.
+/// The check digit detects that one character was replaced by another of its number set: any character of an EAN-13
+/// or EAN-8, one of the first five of a UPC-E, any digit of an ITF-14.
 pub fn replacement_is_noticed()
     ensures { ReplacementIsNoticed }
 {
     ean_code::replaced_digit_is_unchecked();
 }
 
-/// One start, data or check character of a Code 128 symbol replaced by another is noticed by the
-/// check character.
+/// The check character of a Code 128 symbol detects that one start, data or check character was replaced by another.
 pub fn replaced_character_is_noticed()
     ensures { ReplacedCharacterIsNoticed }
 {
     code128_code::replaced_is_unchecked();
 }
 
-/// No row is refused for the length of its text.
+/// No row is refused because its text is too long.
 pub fn never_too_long()
     ensures { NeverTooLong }
 {
@@ -54,7 +53,7 @@ pub fn never_too_long()
     ean_code::gtins_have_fourteen();
 }
 
-/// A symbol has as many widths, and as many modules in all, as its carrier says.
+/// A symbol has as many widths, and as many modules in total, as its carrier has.
 pub fn symbol_measures()
     ensures { SymbolMeasures }
 {
@@ -62,7 +61,7 @@ pub fn symbol_measures()
     code128_code::measures();
 }
 
-/// Widths are a row exactly if they have no fault.
+/// Widths are a row exactly if they have no error.
 pub fn row_or_fault()
     ensures { RowOrFault }
 {}
@@ -72,23 +71,23 @@ pub fn dots_determine()
     ensures { DotsDetermine }
 {}
 
-/// Dots, at most 65,535, are those of a row.
+/// All dots, at most 65,535, are those of a row.
 pub fn dots_make_row()
     ensures { DotsMakeRow }
 {}
 
-/// A row turned end for end has its dots in reverse.
+/// A row that is reversed has its dots in reverse order.
 pub fn turned_dots()
     ensures { TurnedDots }
 {}
 
-/// ITF-14 changed the answer of no row with another number of runs between its light ends than 77.
+/// Reading ITF-14 changed the answer only of rows with 77 runs between the light ends.
 pub fn other_rows_keep()
     ensures { OtherRowsKeep }
 {}
 
-/// An ITF-14 with wide elements 2.25 to 3 times as wide as narrow ones, in whole dots, and light ends
-/// of ten narrow elements is read from either end (GS1 General Specifications, section 5.3).
+/// An ITF-14 in whole dots is read from either end if its wide elements are 2.25 to 3 times as wide as its narrow
+/// ones and its light ends are ten narrow elements wide (GS1 General Specifications, section 5.3).
 pub fn each_ratio_is_read()
     ensures { EachRatioIsRead }
 {
@@ -97,19 +96,19 @@ pub fn each_ratio_is_read()
     element_core::gtin_reads();
 }
 
-/// A search of a row finds each of its symbols, from left to right.
+/// A search finds every symbol of a row, from left to right.
 pub fn symbols_are_told()
     ensures { SymbolsAreTold }
 {
     one_answer();
 }
 
-/// A row that is read as a whole is a symbol of itself.
+/// A row that is read as a whole is one of its own symbols.
 pub fn whole_row()
     ensures { WholeRow }
 {}
 
-/// A row turned end for end has the same symbols, in reverse order if none stands inside another.
+/// A row that is reversed has the same symbols, in reverse order if none lies inside another.
 pub fn turned_symbols()
     ensures { TurnedSymbols }
 {}

@@ -1,5 +1,5 @@
-//! Rows of dots as runs of widths, and what they say: rounded to modules, read as symbols, and the
-//! symbols' text as elements.
+//! Reads rows of dots, as runs of widths: rounds them to modules, reads the modules as symbols, and the text of a
+//! symbol as elements.
 #![tactic(auto)]
 
 mod answer;

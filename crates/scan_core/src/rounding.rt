@@ -1,4 +1,4 @@
-//! Widths in dots rounded to modules.
+//! Rounds widths in dots to modules.
 ghost use Rattle.std.specs.Prelude.{◌≡◌, ◌+◌, ◌*◌, ◌<◌, ◌≤◌, ◌↔◌, ◌^◌, ◌%◌, IsTrue, [], ℕ, List, false, length, sum, true};
 ghost use Rattle.std.specs.List.{AllZip};
 ghost use Rattle.ean_code.specs.Widths.{AreModules};
@@ -12,7 +12,7 @@ use arrayvec::ArrayVec;
 /// The runs of the longest symbol.
 const MOST_RUNS: usize = 595;
 
-/// The dots of the runs together.
+/// The number of dots of all runs.
 pub(crate) fn total_dots(widths: &[u16]) -> u32
     requires { sum widths.now < 2 ^ 32 }
     ensures { result ≡ sum widths.now }
@@ -35,7 +35,8 @@ pub(crate) fn is_quiet(widths: &[u16], total: u32, count: u16) -> bool
 
 /// The widths in dots at which the number of modules of a run changes.
 ///
-/// From the first four on a run is near to 1, 2, 3 and 4 modules or above, and from the others on past these.
+/// From each of the first four limits on, a run is near 1, 2, 3 or 4 modules, or wider. From each of the others on,
+/// it is past them.
 #[derive(Clone, Copy)]
 pub(crate) struct Limits {
     pub(crate) one: u16,
@@ -48,7 +49,7 @@ pub(crate) struct Limits {
     pub(crate) past_four: u16,
 }
 
-/// The least width in dots that is this many thirds of a module, if `total` dots are `count` modules.
+/// The least width in dots that is at least this many thirds of a module, if `total` dots are `count` modules.
 fn least_width(thirds: u32, total: u32, count: u32) -> u16
     requires thirds { thirds ≤ 13 }
     requires narrow { total ≤ 65535 }
@@ -91,7 +92,7 @@ fn limits_of(total: u16, count: u16) -> Limits
     }
 }
 
-/// 1 if the width comes up to the limit, and else 0.
+/// 1 if the width reaches the limit, else 0.
 fn reaches(width: u16, limit: u16) -> u16
     ensures reached { limit ≤ width → result ≡ 1 }
     ensures below { width < limit → result ≡ 0 }
@@ -100,9 +101,9 @@ fn reaches(width: u16, limit: u16) -> u16
     u16::from(limit <= width)
 }
 
-/// The number of modules that a run of `width` dots is nearest to, and whether it is this many.
+/// The number of modules that is nearest to a run of `width` dots, and whether it is near enough.
 ///
-/// It is this many if it comes up to as many limits above 1 module as it is past.
+/// It is near enough if the run reaches as many limits above 1 module as it is past.
 fn modules_of(width: u16, limits: Limits) -> (u8, bool)
     ensures found { (N W : ℕ) → 0 < W → AreLimits N W limits.one limits.two limits.three limits.four
         limits.past_one limits.past_two limits.past_three limits.past_four → result.1 ≡ true → IsRun N W width result.0 }
@@ -120,9 +121,9 @@ fn modules_of(width: u16, limits: Limits) -> (u8, bool)
     (1 + reached as u8, is_near)
 }
 
-/// Puts the number of modules of each run into its place in `modules`, and answers whether each run has one.
+/// Writes the number of modules of each run to `modules`. Returns whether each run has one.
 ///
-/// Each run is looked at, since a loop without an early end rounds many at once.
+/// It goes through all runs, since a loop without an early exit rounds many at once.
 fn round_each(inner: &[u16], total: u16, count: u16, modules: &mut [u8]) -> bool
     requires places { length modules.old ≡ length inner.now }
     requires short { count ≤ 1091 }
@@ -145,8 +146,8 @@ fn round_each(inner: &[u16], total: u16, count: u16, modules: &mut [u8]) -> bool
     each
 }
 
-/// Puts the modules that the runs of a symbol, `total` dots and `count` modules together, round to into `modules`,
-/// and answers whether each run rounds to some.
+/// Writes the modules of a symbol's runs, which are `total` dots and `count` modules wide, to `modules`. Returns
+/// whether each run has some.
 pub(crate) fn round(
     inner: &[u16],
     total: u16,

@@ -1,4 +1,4 @@
-//! The memory of rows, which is used again.
+//! Reuses the memory of rows.
 ghost use Rattle.std.specs.Prelude.{IfErr, IfOk, false, ◌≡◌, ◌≤◌, ◌+◌, []};
 
 use crate::fault::RunFault;
@@ -7,21 +7,22 @@ use std::alloc::{AllocError, Global};
 use std::marker::Model;
 use std::mem;
 
-/// A pool keeps the memory of this many rows at most. `live` answers some 450 rows at a time.
+/// How many rows' memory a pool keeps at most. `live` answers some 450 rows at a time.
 const MOST_ROWS: usize = 1_024;
 
-/// The memory of a row is kept if it has room for this many widths at most: most rows have fewer.
+/// How many widths the memory of a row may hold so that the pool keeps it: most rows have fewer.
 const MANY_WIDTHS: usize = 1_024;
 
-/// The memory of rows that were put back, for the rows that come: a program that reads one row after another need not
-/// allocate memory for each.
+/// The memory of rows that are no longer used, for rows that come: a program that reads one row after another need
+/// not allocate memory for each.
 ///
-/// Its value is the number of rows whose memory it keeps, at most 1,024. None has room for more than 1,024 widths.
+/// Contracts see it as the number of rows whose memory it keeps, at most 1,024. None has room for more than 1,024
+/// widths.
 #[derive(Debug, Drop)]
 pub struct RowPool {
     pub(crate) alloc: Global,
     pub(crate) rows: Vec<Box<Kept>>,
-    /// A memory for the widths of the next row, which are read before they are put in their place.
+    /// A list for the widths of the next row, before they move into the row.
     spare: Vec<u16>,
 }
 
@@ -48,7 +49,7 @@ impl RowPool {
         })
     }
 
-    /// A pool without room, which keeps no row.
+    /// A pool that keeps no row.
     pub fn none(alloc: Global) -> RowPool
         ensures { result ≡ 0 }
     {
@@ -59,7 +60,7 @@ impl RowPool {
         }
     }
 
-    /// An empty list for the widths of the next row. It may have the memory of a row that was put back. The call
+    /// An empty list for the widths of the next row, with the memory of an earlier row if there is one. The call
     /// allocates nothing.
     pub fn take_widths(&mut self) -> Vec<u16>
         ensures empty { result.items ≡ [] }
@@ -70,7 +71,7 @@ impl RowPool {
         widths
     }
 
-    /// Keeps a memory for the widths of the next row, unless it is large.
+    /// Keeps a list for the widths of the next row, unless it is large.
     pub(crate) fn keep_widths(&mut self, widths: Vec<u16>)
         ensures { self.new ≡ self.old }
     {
@@ -79,7 +80,7 @@ impl RowPool {
         }
     }
 
-    /// The memory of a row that was put back, or else new memory.
+    /// The memory of an earlier row, or else new memory.
     pub(crate) fn take_kept(&mut self) -> Result<Box<Kept>, RunFault>
         ensures ok { IfOk result (λ kept. kept.value.is_read ≡ false) }
         ensures refused { IfErr result (λ f. f ≡ RunFault.NoMemory) }
@@ -93,7 +94,7 @@ impl RowPool {
         }
     }
 
-    /// Keeps the memory of a row that is no longer used, unless the row is large or the pool is full. The call allocates
+    /// Keeps the memory of a row that is no longer used, unless it is large or the pool is full. The call allocates
     /// nothing.
     pub fn put_back(&mut self, row: Runs)
         ensures more { self.old ≤ self.new }

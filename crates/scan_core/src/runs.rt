@@ -21,26 +21,25 @@ use std::marker::Model;
 /// The dots of the widest row.
 const MOST_DOTS: u32 = 65_535;
 
-/// The runs of a row that has this many dots and a light end of no dot on each side: a row has no
-/// more.
+/// The most runs of a row: those of a row with this many dots whose two light ends have no dot.
 const MOST_RUNS: usize = 65_537;
 
-/// A row: the widths of its runs in dots, light and dark in turn, from the light end at its left to
-/// the one at its right. An end may be 0, each run between has a dot, and the row at most 65,535.
+/// A row: the widths of its runs in dots. Light and dark alternate; the first and the last run are light. Only these
+/// two may have 0 dots. The row has at most 65,535 dots.
 ///
-/// A row that was read keeps what was found in it, so that it is read once.
+/// A row that was read keeps what was found in it, so that it is read only once.
 #[derive(Debug, Drop)]
 pub struct Runs {
     pub(crate) kept: Box<Kept>,
 }
 
-/// What a row keeps, in one place in memory, so that a row is moved as one address.
+/// The content of a row in one block of memory, so that moving a row moves one address.
 #[derive(Debug, Drop)]
 pub(crate) struct Kept {
     /// What was found in the row, if it was read.
     pub(crate) found: Found,
     pub(crate) is_read: bool,
-    /// The reference year under which `said` has the elements of the characters that were found, if it has.
+    /// The reference year by which `said` has the elements of the characters that were found, if it has any.
     pub(crate) said_by: Option<Year>,
     /// These elements in the human-readable form.
     pub(crate) said: ArrayString<288>,
@@ -70,7 +69,7 @@ pub(crate) fn inner(widths: &[u16]) -> &[u16]
     }
 }
 
-/// How many dots the widths are together.
+/// The number of dots of all widths.
 fn total(widths: &[u16]) -> u32
     requires { length widths.now ≤ 65537 }
     ensures { result ≡ sum widths.now }
@@ -82,11 +81,11 @@ fn total(widths: &[u16]) -> u32
     total
 }
 
-/// Whether each run has a dot.
+/// Whether each run has at least one dot.
 fn have_dots(widths: &[u16]) -> bool
     ensures { result ≡ list_all (λ width. nat_le 1 width) widths.now }
 {
-    // Each run is looked at, since a loop without an early end reads many at once.
+    // The loop goes through all runs, since one without an early exit checks many at once.
     let mut each = true;
     for width in widths {
         each &= *width >= 1;
@@ -107,7 +106,7 @@ pub(crate) fn runs_fault(widths: &[u16]) -> Option<RunFault>
     None
 }
 
-/// Room for a row.
+/// An empty row.
 pub(crate) fn new_kept(alloc: Global) -> Result<Box<Kept>, RunFault>
     ensures ok { IfOk result (λ kept. kept.value.is_read ≡ false) }
     ensures empty { IfOk result (λ kept. kept.value.widths.list ≡ []) }
@@ -129,9 +128,9 @@ pub(crate) fn new_kept(alloc: Global) -> Result<Box<Kept>, RunFault>
 }
 
 impl Runs {
-    /// The row of these widths in dots, the first and the last light.
+    /// The row of these widths in dots; the first and the last are light.
     ///
-    /// Of several faults the first is answered: `BadRuns`, then `TooWide`, then `NoMemory`.
+    /// The errors are `BadRuns`, `TooWide` and `NoMemory`; if there are several, the first of these.
     pub fn of_widths(alloc: Global, widths: &[u16]) -> Result<Runs, RunFault>
         ensures ok { IfOk result (λ r. r ≡ widths.now) }
         ensures taken { OnOk result (runs_fault widths.now ≡ None) }
@@ -148,10 +147,10 @@ impl Runs {
         }
     }
 
-    /// The row that keeps these widths in dots, the first and the last light. It has the memory of a row that was put
-    /// back, if the pool keeps one.
+    /// The row that takes over these widths in dots; the first and the last are light. It uses the memory of an
+    /// earlier row, if the pool has some.
     ///
-    /// Of several faults the first is answered: `BadRuns`, then `TooWide`, then `NoMemory`.
+    /// The errors are those of `of_widths`.
     pub fn from_widths(pool: &mut RowPool, widths: Vec<u16>) -> Result<Runs, RunFault>
         ensures ok { IfOk result (λ r. r ≡ widths.items) }
         ensures taken { OnOk result (runs_fault widths.items ≡ None) }
@@ -169,11 +168,10 @@ impl Runs {
         }
     }
 
-    /// The row of `width` dots of packed bytes, from the dot `from` on. A byte has its first dot in
-    /// its high bit, and 1 is dark.
+    /// The row of `width` dots of packed bytes, from dot `from` on. The first dot of a byte is its high bit; 1 is
+    /// dark.
     ///
-    /// A row of more than 65,535 dots is `TooWide`, before any memory is taken; else only memory can
-    /// be refused.
+    /// A row of more than 65,535 dots is `TooWide`, before any memory is taken. The only other error is `NoMemory`.
     pub fn cut(alloc: Global, bits: &[u8], from: usize, width: usize) -> Result<Runs, RunFault>
         requires { from + width ≤ 8 * length bits.now }
         ensures dots { IfOk result (λ r. dots_of r ≡ dots_at bits.now from width) }
@@ -191,7 +189,7 @@ impl Runs {
         Ok(Runs { kept })
     }
 
-    /// The widths in dots, the first and the last light.
+    /// The widths in dots; the first and the last are light.
     pub fn widths(&self) -> &[u16]
         ensures value { result.now ≡ self.now }
         ensures row { IsRow self.now }
@@ -199,7 +197,7 @@ impl Runs {
         self.kept.widths.as_slice()
     }
 
-    /// Turns the row end for end.
+    /// Reverses the row.
     pub fn reverse(&mut self)
         ensures { self.new ≡ reverse self.old }
     {
@@ -208,8 +206,7 @@ impl Runs {
         kept.widths.reverse();
     }
 
-    /// Reads the row, up to the symbol that it shows, and keeps what was found: `read_row` makes its answer of
-    /// that from then on.
+    /// Finds the symbol of the row and keeps it. From then on, `read_row` takes its answer from there.
     pub fn read(&mut self)
         ensures { self.new ≡ self.old }
     {
@@ -219,8 +216,8 @@ impl Runs {
         kept.said_by = None;
     }
 
-    /// Reads the row as `read` does, and keeps the elements that it has under the reference year too, if it shows a
-    /// symbol of characters that say some: `push_row` need not make them then.
+    /// Reads the row as `read` does. If it shows a symbol of characters with elements, it also keeps these elements
+    /// by the reference year, so that `push_row` need not compute them.
     pub fn read_by(&mut self, year: Year)
         ensures { self.new ≡ self.old }
     {
@@ -239,8 +236,8 @@ impl Runs {
             None
         }
     }
-    /// The carrier of the symbol of characters that was found in the row, and the elements that it has under the
-    /// reference year, in the human-readable form, if they were kept.
+    /// The carrier of the symbol of characters that was found in the row, and its elements by the reference year in
+    /// the human-readable form, if they were kept.
     pub(crate) fn said(&self, year: Year) -> Option<(Carrier, &str)>
         ensures { IfSome result (λ said. RowSays self.now year said.0 said.1.now) }
     {

@@ -4,13 +4,13 @@ ghost use Rattle.scan_core.specs.Windows.{IsNextWindow, IsOver, Search, search_a
 
 use crate::window::Window;
 
-/// A search of a row for its symbols, from the left.
+/// Searches a row for its symbols, from left to right.
 pub trait SymbolSearch {
-    // What is left of the row to be searched.
+    // The part of the row that is left to search.
     ghost rest: { Self → Search };
 
-    /// The next symbol: of the windows that begin and end with a light run and are read as a row, the
-    /// first from the left that was not found yet; of those that begin at one run the shortest.
+    /// The next symbol. Symbols are windows that begin and end with a light run and are read as a row. They come in
+    /// the order in which they begin; of those that begin at the same run, the shortest comes first.
     fn next_symbol(&mut self) -> Option<Window>
         ensures next { IfSome result (λ w. IsNextWindow (rest self.old) w) }
         ensures after { IfSome result (λ w. rest self.new ≡ search_after (rest self.old) w) }

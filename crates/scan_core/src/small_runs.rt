@@ -1,7 +1,7 @@
 //! Rounds sixteen runs at a time, if no limit is above 255 dots, as in most rows: each byte of a vector is a run.
 //!
-//! Each limit is compared with all sixteen, as `modules_of` of rounding.rt compares them with one. A table of widths would need
-//! fewer steps for a block, but is made anew for each row, and most have few blocks.
+//! It compares each limit with all sixteen, as `modules_of` of rounding.rt does with one. A table of widths would
+//! need fewer steps for a block, but each row would need its own table, and most rows have few blocks.
 ghost use Rattle.std.specs.Prelude.{◌≡◌, ◌+◌, ◌++◌, ◌≤◌, cond, drop, length, map, nat_le, take, true};
 ghost use Rattle.std.specs.Simd.Lanes.{zip2};
 ghost use Rattle.scan_core.specs.inner.RunLanes.{AreSmall, above_one, are_near, modules_or_none, passed, reaches};
@@ -9,7 +9,7 @@ ghost use Rattle.scan_core.specs.inner.RunLanes.{AreSmall, above_one, are_near, 
 use crate::rounding::Limits;
 use std::simd::prelude::*;
 
-/// 1 in each lane whose width comes up to the limit beside it, and else 0.
+/// 1 in each lane whose width reaches the limit beside it, else 0.
 #[inline(always)]
 fn reached(widths: u8x16, limits: u8x16) -> u8x16
     ensures { result ≡ zip2 reaches limits widths }
@@ -19,7 +19,7 @@ fn reached(widths: u8x16, limits: u8x16) -> u8x16
         .select(u8x16::splat(1), u8x16::splat(0))
 }
 
-/// To how many limits above one module each width comes up.
+/// How many limits above one module each width reaches.
 #[inline(always)]
 fn above_one(widths: u8x16, limits: Limits) -> u8x16
     requires small { AreSmall limits }
@@ -42,7 +42,7 @@ fn passed(widths: u8x16, limits: Limits) -> u8x16
         + reached(widths, u8x16::splat(limits.past_four as u8))
 }
 
-/// The number of modules of each run, 0 for one that is near to none.
+/// The number of modules of each run, 0 if it is near none.
 #[inline(always)]
 fn modules_of_each(widths: u8x16, limits: Limits) -> u8x16
     requires small { AreSmall limits }
@@ -84,7 +84,7 @@ fn put_lanes(lanes: u8x16, modules: &mut [u8], at: usize)
     lanes.copy_to_slice(&mut modules[at..at + 16]);
 }
 
-/// Puts the modules of sixteen runs into their places, and answers whether each run has some.
+/// Writes the modules of sixteen runs. Returns whether each run has some.
 #[inline(always)]
 fn round_block(inner: &[u16], at: usize, limits: Limits, modules: &mut [u8]) -> bool
     requires room { at + 16 ≤ length inner.now }
@@ -99,8 +99,8 @@ fn round_block(inner: &[u16], at: usize, limits: Limits, modules: &mut [u8]) -> 
     are_near(found)
 }
 
-/// Puts the number of modules of each run into its place, and answers whether each run has one. The last sixteen are
-/// rounded together, some of them a second time.
+/// Writes the number of modules of each run. Returns whether each run has one. It rounds the last sixteen together,
+/// some of them a second time.
 pub(crate) fn round_small(inner: &[u16], limits: Limits, modules: &mut [u8]) -> bool
     requires many { 16 ≤ length inner.now }
     requires places { length modules.old ≡ length inner.now }

@@ -1,4 +1,4 @@
-//! The symbol that modules are, and what it says.
+//! Which symbol modules are, and its content.
 ghost use Rattle.std.specs.Prelude.{◌≡◌, List, Some, false, true, ℕ};
 ghost use Rattle.ean_code.specs.Spelling.{IsSpelled};
 ghost use Rattle.ean_code.specs.Symbols.{IsNumberSymbol};
@@ -13,8 +13,7 @@ use crate::found::Found;
 use code128_code::values;
 use ean_code::{Modules, Spelled, read_ean8, read_ean13, read_itf14, read_upce};
 
-/// Puts what was found, the symbol of EAN, UPC or ITF-14 that was read, into its place, if it was one, and answers
-/// whether it was.
+/// Writes the symbol of EAN, UPC or ITF-14 that was read, if there was one. Returns whether there was.
 fn put_number(carrier: Carrier, spelled: Spelled, found: &mut Found) -> bool
     ensures found { (kind : Kind) (modules : List ℕ) → IsSpelled kind modules spelled → result ≡ true
         → (symbol : ReadSymbol) × IsSymbolAs (Some kind) modules symbol × (found.new ≡ found_of carrier symbol) }
@@ -29,8 +28,7 @@ fn put_number(carrier: Carrier, spelled: Spelled, found: &mut Found) -> bool
     true
 }
 
-/// Puts what is found, the symbol of the carrier that the modules are, read from the left, into its place, and
-/// answers whether they are one.
+/// Writes the symbol of the carrier that the modules are, read from the left. Returns whether they are one.
 fn read_symbol(carrier: Carrier, modules: &Modules, found: &mut Found) -> bool
     ensures found { result ≡ true → (symbol : ReadSymbol) × IsSymbolAs (kind_of carrier) modules.now symbol
         × (found.new ≡ found_of carrier symbol) }
@@ -51,8 +49,8 @@ fn read_symbol(carrier: Carrier, modules: &Modules, found: &mut Found) -> bool
     }
 }
 
-/// Puts what is found, the symbol of the carrier that the modules are, read from the left or else from the right,
-/// into its place, and answers whether they are one. If they are none from the left they are turned round.
+/// Writes the symbol of the carrier that the modules are, read from the left or else from the right. Returns whether
+/// they are one. If they are none from the left, it reverses them.
 pub(crate) fn read_some_way(carrier: Carrier, modules: &mut Modules, found: &mut Found) -> bool
     ensures found { result ≡ true → (way : Way) × (symbol : ReadSymbol)
         × IsSymbolAs (kind_of carrier) (along way modules.old) symbol × (found.new ≡ found_of carrier symbol) }

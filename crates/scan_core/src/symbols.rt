@@ -1,4 +1,4 @@
-//! Every symbol of a row.
+//! Finds every symbol of a row.
 ghost use Rattle.std.specs.Prelude.{None, ◌≡◌, ◌⊎◌, ◌<◌, ◌+◌, ◌*◌, ◌%◌, ◌≤◌, ◌↔◌, IfErr, IfNone, IfOk, IfSome, IsTrue, OnOk, ℕ, false, length, slice_index, true};
 ghost use Rattle.scan_core.specs.Row.{IsRow, runs_fault};
 ghost use Rattle.scan_core.specs.Showing.{HasSize, kind_of};
@@ -19,22 +19,22 @@ use std::marker::Model;
 /// The shortest window has this many runs.
 const LEAST_RUNS: usize = 27;
 
-/// It has this many pairs of runs after its first run, but for the last.
+/// It has this many pairs of runs after its first run, not counting the last pair.
 const LEAST_PAIRS: usize = 12;
 
 /// The longest window has this many pairs of runs after its first run.
 const MOST_PAIRS: usize = 298;
 
-/// What is left of a row to be searched.
+/// The part of a row that is left to search.
 #[derive(Clone, Copy)]
 pub(crate) struct Rest {
-    /// Windows that begin before this run are passed.
+    /// The search has passed all windows that begin before this run.
     pub(crate) first: usize,
-    /// So are those that begin at it and have fewer runs.
+    /// It has also passed those that begin at this run and have fewer runs.
     pub(crate) least: usize,
 }
 
-/// The search of a row for its symbols, from the left.
+/// Searches a row for its symbols, from left to right.
 #[derive(Drop)]
 pub struct Symbols<'a> {
     widths: &'a [u16],
@@ -55,14 +55,15 @@ impl<'a> Model for Symbols<'a> {
     ghost invariant = { IsSearch };
 }
 
-/// Where a window stands.
+/// Where a window is.
 #[derive(Clone, Copy)]
 struct Span {
     first: usize,
     count: usize,
 }
 
-/// Whether a carrier has symbols of this many runs. Few windows come so far, so its division is kept out of the loop.
+/// Whether a carrier has symbols of this many runs. It is not inlined into the loop: few windows get this far, and it
+/// divides.
 #[inline(never)]
 fn is_symbol_count(run_count: usize) -> bool
     ensures { result ≡ false → (c : Carrier) (N : ℕ) → HasSize (kind_of c) run_count N → ⊥ }
@@ -85,11 +86,11 @@ fn widest_of(widths: &[u16]) -> u16
     widest
 }
 
-/// Whether none of the runs is wider than so much.
+/// Whether no run is wider than this.
 fn none_wider(widths: &[u16], widest: u16) -> bool
     ensures { result ≡ true → (i : ℕ) → i < length widths.now → slice_index widths.now i ≤ widest }
 {
-    // Each run is looked at, since a loop without an early end looks at many at once.
+    // The loop goes through all runs, since one without an early exit checks many at once.
     let mut none = true;
     'runs: for i in 0..widths.len() {
         none &= widths[i] <= widest;
@@ -97,17 +98,18 @@ fn none_wider(widths: &[u16], widest: u16) -> bool
     none
 }
 
-/// Whether a light run may be an end of a symbol that has these dark and light runs next to it.
+/// Whether a light run can be the end of a symbol that has these dark and light runs next to it.
 ///
-/// An end is at least five modules, the dark run two at most, and the light one a single one, each to
-/// within a third of a module.
+/// An end is at least five modules, the dark run at most two, and the light one exactly one, each to within a third
+/// of a module.
 fn may_end(end: u16, dark: u16, light: u16) -> bool
     ensures { IsTrue result ↔ MayEnd end dark light }
 {
     15 * u32::from(light) <= 4 * u32::from(end) && 15 * u32::from(dark) <= 7 * u32::from(end)
 }
 
-/// Whether the window of this many runs from this one on may be a symbol, by its right end and how many they are.
+/// Whether the window of this many runs from this one on can be a symbol, by its right end and the number of its
+/// runs.
 fn may_be_symbol(widths: &[u16], first: usize, count: usize) -> bool
     requires row { IsRow widths.now }
     requires many { 3 ≤ count }
@@ -118,8 +120,8 @@ fn may_be_symbol(widths: &[u16], first: usize, count: usize) -> bool
     may_end(widths[last], widths[last - 1], widths[last - 2]) && is_symbol_count(count - 2)
 }
 
-/// How many pairs of runs behind the first run are passed, eight at a time, as no light run from the thirteenth
-/// pair on is wider than so much.
+/// How many pairs of runs after the first run the search skips, eight at a time, because no light run from the
+/// thirteenth pair on is wider than this.
 fn pairs_passed(widths: &[u16], first: usize, pairs: usize, widest: u16) -> usize
     requires within { first + 2 * pairs + 1 ≤ length widths.now }
     ensures least { 12 ≤ result }
@@ -136,12 +138,12 @@ fn pairs_passed(widths: &[u16], first: usize, pairs: usize, widest: u16) -> usiz
     passed
 }
 
-/// How many runs the first of the windows has that begin with this run, have this many runs at least and may
-/// be a symbol, shorter ones first.
+/// The number of runs of the first window that begins with this run, has at least this many runs and can be a symbol.
+/// Shorter windows come first.
 ///
-/// A window grows until one of its light runs is no narrower than its light end: no longer one is read. It may be
-/// a symbol if its other end is wider than those before it, and the first dark ones. Few runs are looked at as
-/// light ends, so this is kept out of their loop.
+/// A window grows until one of its light runs is at least as wide as its light end: no longer one is read. It can be
+/// a symbol if its other end is wider than those before it and than the first dark ones. It is not inlined into the
+/// loop, since few runs can be light ends.
 #[inline(never)]
 fn count_from(widths: &[u16], first: usize, least: usize) -> Option<usize>
     requires row { IsRow widths.now }
@@ -158,7 +160,7 @@ fn count_from(widths: &[u16], first: usize, least: usize) -> Option<usize>
         return None;
     }
     let pairs = ((widths.len() - first) / 2).min(MOST_PAIRS);
-    // No window of fewer than 27 runs is read, so the first 24 between its ends are looked at together.
+    // No window of fewer than 27 runs is read, so it looks at the first 24 runs between the ends together.
     let mut widest = widest_of(&widths[first + 1..first + 25]);
     if left <= widest {
         return None;
@@ -178,7 +180,7 @@ fn count_from(widths: &[u16], first: usize, least: usize) -> Option<usize>
     None
 }
 
-/// The first of the windows that may be a symbol and begin after this run, or at it with this many runs at least.
+/// The first window that can be a symbol and begins after this run, or at it with at least this many runs.
 fn next_place(widths: &[u16], first: usize, least: usize) -> Option<Span>
     requires row { IsRow widths.now }
     requires light { first % 2 ≡ 0 }
@@ -203,10 +205,10 @@ fn next_place(widths: &[u16], first: usize, least: usize) -> Option<Span>
     None
 }
 
-/// The first that is read of this window and those that come after it. What is left of the row goes on behind it.
+/// The first symbol among this window and those after it. The search continues behind it.
 ///
-/// It is called if there is a window that may be a symbol, so that a search which finds none does not pay for
-/// the room of an answer.
+/// It is called only if a window can be a symbol, so that a search that finds none does not pay for the room of an
+/// answer.
 #[inline(never)]
 fn first_read(widths: &[u16], place: Span, year: Year, rest: &mut Rest) -> Option<Window>
     requires row { IsRow widths.now }
@@ -242,7 +244,7 @@ fn first_read(widths: &[u16], place: Span, year: Year, rest: &mut Rest) -> Optio
     }
 }
 
-/// The next symbol of what is left of a row, which goes on behind it.
+/// The next symbol in the part that is left. The search continues behind it.
 pub(crate) fn next_window(widths: &[u16], rest: &mut Rest, year: Year) -> Option<Window>
     requires row { IsRow widths.now }
     requires light { rest.old.first % 2 ≡ 0 }
@@ -258,7 +260,7 @@ pub(crate) fn next_window(widths: &[u16], rest: &mut Rest, year: Year) -> Option
 }
 
 impl<'a> Symbols<'a> {
-    /// The search of the row of these widths, or why they are no row.
+    /// Searches the row of these widths, or says why they are no row.
     pub fn of_widths(widths: &'a [u16], year: Year) -> Result<Symbols<'a>, RunFault>
         ensures ok { IfOk result (λ s. s ≡ search_of widths.now year) }
         ensures taken { OnOk result (runs_fault widths.now ≡ None) }

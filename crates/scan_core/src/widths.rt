@@ -1,4 +1,4 @@
-//! The widths of a row in their place in memory.
+//! The widths of a row, without a memory block of their own if they are few.
 ghost use Rattle.std.specs.Prelude.{◌≡◌, ◌≤◌, ◌++◌, ◌∷◌, [], IfOk, OnErr, OnOk, length, reverse};
 
 use crate::cut::{NoRoom, RunList};
@@ -6,11 +6,11 @@ use std::alloc::{AllocError, Global};
 use std::marker::Model;
 use std::mem;
 
-/// So many widths stand in the place itself: most rows have fewer.
+/// How many widths fit in without their own memory: most rows have fewer.
 pub(crate) const FEW: usize = 160;
 
-/// The widths of a row. Up to 160 stand here, so that a row lies in one place in memory, and more have a memory of
-/// their own.
+/// The widths of a row. Up to 160 are stored inline, so that a row is one block of memory; more have a block of their
+/// own.
 #[derive(Debug, Drop)]
 pub(crate) struct Widths {
     /// How many stand in `few`, if `many` is empty.
@@ -56,14 +56,14 @@ impl Widths {
         }
     }
 
-    /// How many widths the memory of their own has room for.
+    /// How many widths their own memory has room for.
     pub(crate) fn room(&self) -> usize
         ensures { result ≡ self.now.room }
     {
         self.many.capacity()
     }
 
-    /// Turns the widths end for end.
+    /// Reverses the widths.
     pub(crate) fn reverse(&mut self)
         ensures { self.new.list ≡ reverse self.old.list }
     {
@@ -74,7 +74,7 @@ impl Widths {
         }
     }
 
-    /// Puts these widths in the place of those that stand here.
+    /// Replaces the widths by these.
     fn put_few(&mut self, widths: &[u16])
         requires { length widths.now ≤ 160 }
         ensures { self.new.list ≡ widths.now }
@@ -84,7 +84,7 @@ impl Widths {
         self.few[..self.count].copy_from_slice(widths);
     }
 
-    /// Puts these widths in the place of those that stand here. If there is no memory they stay.
+    /// Replaces the widths by these. If there is no memory, they stay.
     pub(crate) fn put_slice(&mut self, widths: &[u16]) -> Result<(), AllocError>
         ensures { OnOk result (self.new.list ≡ widths.now) }
     {
@@ -96,8 +96,8 @@ impl Widths {
         self.many.extend_from_slice(widths)
     }
 
-    /// Puts these widths in the place of those that stand here. What is left is a memory that is not needed: that of
-    /// few widths, or else that of those before.
+    /// Replaces the widths by these. Returns the memory that is no longer needed: that of the argument if they are
+    /// few, otherwise that of the earlier widths.
     pub(crate) fn put_vec(&mut self, widths: Vec<u16>) -> Vec<u16>
         ensures { self.new.list ≡ widths.items }
     {
@@ -109,7 +109,7 @@ impl Widths {
         }
     }
 
-    /// Puts a width at the end, in a memory of their own.
+    /// Puts a width at the end, in their own memory.
     fn push_many(&mut self, width: u16) -> Result<(), AllocError>
         ensures put { OnOk result (self.new.list ≡ self.old.list ++ width ∷ []) }
         ensures unchanged { OnErr result (self.new.list ≡ self.old.list) }

@@ -1,4 +1,4 @@
-//! A symbol of a row, and where it stands.
+//! A symbol of a row, and its place.
 
 use crate::carrier::Carrier;
 use element_core::Elements;
@@ -10,7 +10,7 @@ pub struct Window {
     pub first: usize,
     /// How many runs it has, with the light ones at its ends: from 27 to 597.
     pub count: usize,
-    /// Its elements, dates under the reference year.
+    /// Its elements, with dates by the reference year.
     pub elements: Elements,
     /// The symbol's kind.
     pub carrier: Carrier,

@@ -1,5 +1,6 @@
-//! Times `serve` on rows that are ready: it reads the rows of standard input first, answers them on the calling thread, and
-//! serves them with 1 to 4 workers. Standard error gets the least wall time of fifteen of each, in microseconds.
+//! Times `serve` on rows in memory: it reads all rows of standard input, answers them in the calling thread, and
+//! serves them with 1 to 4 workers. It prints the shortest wall time of fifteen runs of each to standard error, in
+//! microseconds.
 #![tactic(auto)]
 
 use element_core::Year;
@@ -10,7 +11,7 @@ use std::io;
 use std::io::{BufRead, BufReader};
 use std::time::Instant;
 
-/// How often each is done.
+/// How many runs of each.
 const ROUNDS: u32 = 15;
 
 /// The row of a line: the widths after the comma.
@@ -23,7 +24,7 @@ fn parse_row(alloc: Global, line: &str) -> Option<Runs> {
     Runs::of_widths(alloc, widths.as_slice()).ok()
 }
 
-/// How many of the rows are read.
+/// How many of the rows can be read.
 fn count_read(rows: &[Runs], year: Year) -> u64 {
     let mut count = 0u64;
     for row in rows {
@@ -34,7 +35,7 @@ fn count_read(rows: &[Runs], year: Year) -> u64 {
     count
 }
 
-/// The rows once more, as the one feed of a hub.
+/// A copy of the rows, as the only feed of a hub.
 fn feed(alloc: Global, rows: &[Runs]) -> Option<Vec<Vec<Runs>>> {
     let mut feed = Vec::with_capacity(alloc, rows.len()).ok()?;
     for row in rows {

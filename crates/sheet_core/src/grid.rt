@@ -1,11 +1,11 @@
-//! Grids of cells that labels are printed in.
+//! Grids of cells in which labels are printed.
 ghost use Rattle.std.specs.Prelude.{◌≡◌, ◌<◌, ◌≤◌, ◌+◌, ◌*◌, ◌/◌, ◌%◌, ◌↔◌, IfOk, IsOk, IsTrue};
 ghost use Rattle.sheet_core.specs.Grids.{IsGrid};
 
 use crate::fault::BadGrid;
 use std::marker::Model;
 
-/// A grid of cells of one size. All numbers but those of columns and rows are in dots.
+/// A grid of cells of one size. All numbers are in dots, except those of columns and rows.
 #[derive(Clone, Copy, Debug, PartialEq, Eq)]
 pub struct Grid {
     pub(crate) module_dots: u16,
@@ -35,9 +35,9 @@ fn fits_sheet(count: u16, dots: u16) -> bool
 }
 
 impl Grid {
-    /// A grid whose modules are 1 to 8 dots wide, with cells of 1 to 4,096 by 1 to 1,024 dots in 1 to 16
-    /// columns and 1 to 64 rows. A cell is higher than twice the module, and a sheet at most 16,384 dots
-    /// wide and high; any other grid is `BadGrid`.
+    /// A grid whose modules are 1 to 8 dots wide. It has 1 to 16 columns and 1 to 64 rows of cells, each 1 to 4,096
+    /// dots wide and 1 to 1,024 high. A cell must be more than two modules high, and a sheet at most 16,384 dots wide
+    /// and high. Any other grid is `BadGrid`.
     pub fn new(
         module_dots: u16,
         cell_width: u16,

@@ -6,7 +6,7 @@ ghost use Rattle.sheet_core.specs.Kinds.{symbology_of, kind_named};
 
 use scan_core::Carrier;
 
-/// What a GTIN is printed as.
+/// The symbol that a GTIN is printed as.
 #[derive(Clone, Copy, Debug, PartialEq, Eq)]
 pub enum GtinKind {
     /// An EAN-13.
@@ -21,7 +21,7 @@ pub enum GtinKind {
     Itf14,
 }
 
-/// What a label's content is printed as.
+/// The symbol that a label's content is printed as.
 #[derive(Clone, Copy, Debug, PartialEq, Eq)]
 pub enum LabelKind {
     /// A GTIN, as one of its kinds.
@@ -30,12 +30,12 @@ pub enum LabelKind {
     Gs1128,
 }
 
-/// What is told and drawn of a kind of label.
+/// The name of a kind of label, and how it is drawn.
 #[derive(Clone, Copy, Debug)]
 pub struct Symbology {
     /// Its name.
     pub name: &'static str,
-    /// The carrier that its symbol is read as.
+    /// The carrier that its symbol reads as.
     pub carrier: Carrier,
     /// The nominal quiet zone left of the symbol, in modules.
     pub quiet_left: u8,

@@ -19,21 +19,21 @@ use scan_core::Carrier;
 /// What is printed in a cell.
 #[derive(Drop)]
 pub enum Label {
-    /// An EAN-13 (ISO/IEC 15420), of a GTIN of at most 13 digits.
+    /// An EAN-13 (ISO/IEC 15420), for a GTIN of at most 13 digits.
     Ean13(Gtin),
-    /// A UPC-A (ISO/IEC 15420), of a GTIN of at most 12 digits.
+    /// A UPC-A (ISO/IEC 15420), for a GTIN of at most 12 digits.
     UpcA(Gtin),
-    /// An EAN-8 (ISO/IEC 15420), of a GTIN of 8 digits.
+    /// An EAN-8 (ISO/IEC 15420), for a GTIN of 8 digits.
     Ean8(Gtin),
-    /// A UPC-E (ISO/IEC 15420), of a GTIN of 12 digits that can be written with six.
+    /// A UPC-E (ISO/IEC 15420), for a GTIN of 12 digits that can be written with six.
     UpcE(Gtin),
-    /// An ITF-14 (ISO/IEC 16390), of any GTIN, a wide element being three modules.
+    /// An ITF-14 (ISO/IEC 16390), for any GTIN. A wide element is three modules.
     Itf14(Gtin),
-    /// A GS1-128 (ISO/IEC 15417), of elements whose canonical text has at most 48 characters.
+    /// A GS1-128 (ISO/IEC 15417), for elements whose canonical text has at most 48 characters.
     Gs1128(Elements),
 }
 
-/// What a label says.
+/// The content of a label.
 #[derive(Clone, Copy)]
 pub enum Content<'a> {
     /// The element of a GTIN.
@@ -117,7 +117,7 @@ impl Label {
         }
     }
 
-    /// Its kind, and what it says.
+    /// Its kind and its content.
     fn parts(&self) -> (LabelKind, Content<'_>)
         ensures kind { result.0 ≡ label_kind self.now }
         ensures content { lent result.1 ≡ content_of self.now }
@@ -139,14 +139,14 @@ impl Label {
         self.parts().0
     }
 
-    /// What it says.
+    /// Its content.
     pub fn content(&self) -> Content<'_>
         ensures { lent result ≡ content_of self.now }
     {
         self.parts().1
     }
 
-    /// What the label says, as an element string (GS1 General Specifications, section 7.8).
+    /// The content of the label as an element string (GS1 General Specifications, section 7.8).
     pub fn text(&self) -> Text
         ensures { result.items ≡ label_text self.now }
     {
@@ -156,7 +156,7 @@ impl Label {
         }
     }
 
-    /// The carrier that its symbol is read as.
+    /// The carrier that its symbol reads as.
     pub fn carrier(&self) -> Carrier
         ensures { result ≡ carrier_of self.now }
     {
@@ -178,7 +178,7 @@ impl Label {
         }
     }
 
-    /// What is drawn of the label, if it has a symbol (GS1 General Specifications, sections 5.2 to 5.4).
+    /// The label's symbol with its quiet zones, if it has one (GS1 General Specifications, sections 5.2 to 5.4).
     pub fn symbol(&self) -> Option<DrawnSymbol>
         ensures some { IfSome result (IsDrawn self.now) }
         ensures none { IfNone result ((s : Drawn) → IsDrawn self.now s → ⊥) }
@@ -192,7 +192,7 @@ impl Label {
         })
     }
 
-    /// What is drawn of a label that has a symbol.
+    /// The same for a label that has a symbol.
     pub(crate) fn drawn(&self) -> DrawnSymbol
         requires { (s : Drawn) × IsDrawn self.now s }
         ensures { IsDrawn self.now result }
@@ -208,7 +208,7 @@ impl Label {
         }
     }
 
-    /// Whether the label's symbol and its quiet zones fit a cell, if it has a symbol.
+    /// Whether the label's symbol with its quiet zones fits a cell, if it has a symbol.
     pub(crate) fn fits(&self, grid: &Grid) -> Option<bool>
         ensures some { IfSome result (λ fits. (s : Drawn) × IsDrawn self.now s × (IsTrue fits ↔ FitsCell grid.now s)) }
         ensures none { IfNone result ((s : Drawn) → IsDrawn self.now s → ⊥) }

@@ -1,4 +1,4 @@
-//! The image of one label, in a buffer of the caller's.
+//! The image of one label, in the caller's buffer.
 ghost use Rattle.std.specs.Prelude.{[], ◌≡◌, ◌+◌, ◌*◌, ◌∷◌, ◌++◌, ◌≤◌, List, IfErr, IfOk, OnErr, length};
 ghost use Rattle.digits_core.specs.Buffers.{IsPut, pasted};
 ghost use Rattle.sheet_core.specs.Bitmaps.{Bitmap, stride};
@@ -15,7 +15,7 @@ use crate::print::check_labels;
 use digits_core::put_at;
 use std::slice;
 
-/// Puts a row of dots into `out` this many times from `at` on, and says where the last ends.
+/// Puts a row of dots into `out` this many times from `at` on, and returns where the last one ends.
 fn put_rows(line: &[u8], count: u16, at: usize, out: &mut [u8]) -> usize
     requires { at + count * length line.now ≤ length out.old }
     ensures end { result ≡ at + length (repeated_bytes count line.now) }
@@ -28,7 +28,7 @@ fn put_rows(line: &[u8], count: u16, at: usize, out: &mut [u8]) -> usize
     end
 }
 
-/// The same of a header and the dot rows of a row of cells whose bars have this line.
+/// The same for a header and the dot rows of a row of cells with these bars.
 fn put_image(header: &[u8], line: &[u8], grid: &Grid, out: &mut [u8])
     requires room { length header.now + grid.now.height * length line.now ≤ length out.old }
     requires long { length line.now ≡ stride (grid.now.columns * grid.now.width) }
@@ -42,12 +42,12 @@ fn put_image(header: &[u8], line: &[u8], grid: &Grid, out: &mut [u8])
     put_rows(light.as_slice(), grid.module_dots, below, out);
 }
 
-/// The PBM image (netpbm, pbm(5)) of the sheet of one label, in a grid of one cell: the bytes that
-/// `print_pbm` writes of it. They are put at the front of `out` if it has room for them all, and the
-/// answer is how many they are. It takes no memory.
+/// The PBM image (netpbm, pbm(5)) of the sheet of one label, in a grid of one cell: the bytes that `print_pbm` writes
+/// for it. It puts them at the front of `out` if there is room for all of them, and returns how many they are. It
+/// takes no memory.
 ///
-/// A label that has no such symbol is `LabelKind`, and one that is wider with its quiet zones than the
-/// cell `LabelWidth`, both with index 0; `out` is then as it was.
+/// A label without such a symbol is `LabelKind`. One that is wider than the cell, with its quiet zones, is
+/// `LabelWidth`. Both have index 0, and leave `out` unchanged.
 ///
 /// # Examples
 ///

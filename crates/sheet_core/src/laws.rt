@@ -1,4 +1,4 @@
-//! Laws about the definitions, each the contract of a function that does nothing.
+//! Laws about the definitions. Each is the contract of a function that does nothing.
 ghost use Rattle.sheet_core.specs.Grids.{IsGrid};
 ghost use Rattle.sheet_core.specs.Laws.{BarRowsAnswer, BarRowsShow, DrawnIsRead, EmptyCellsAreBlank, FilesAreRead, FilesAreRefused, HeadersAreRead, HeadersAreRefused, OneDrawn, OneListOfSheets, PrintedIsRead, WrittenIsRead};
 ghost use Rattle.sheet_core.specs.PrintLaws.{OneBitmap, OnePrinted};
@@ -7,7 +7,7 @@ use crate::grid::Grid;
 use code128_code::modules_say;
 use scan_core::{dots_determine, one_answer, symbol_measures};
 
-/// What is drawn of a label is one symbol with its quiet zones.
+/// A label is drawn as one symbol with its quiet zones.
 pub fn one_drawn()
     ensures { OneDrawn }
 {}
@@ -21,8 +21,8 @@ pub fn bar_rows_show()
     symbol_measures();
 }
 
-/// Each row through the bars of a printed label's cell says the label's carrier and the elements that
-/// its text says under the reference year, and nothing else.
+/// Each row through the bars of a printed label's cell reads as the label's carrier and the elements of its text by
+/// the reference year, and nothing else.
 pub fn bar_rows_answer()
     ensures { BarRowsAnswer }
 {
@@ -33,8 +33,8 @@ pub fn bar_rows_answer()
     one_answer();
 }
 
-/// Each row with the dots of what is drawn of a label answers the label's carrier and the elements that
-/// its text says under the reference year, and nothing else.
+/// Each row with the dots of a drawn label reads as the label's carrier and the elements of its text by the reference
+/// year, and nothing else.
 pub fn drawn_is_read()
     ensures { DrawnIsRead }
 {
@@ -45,7 +45,7 @@ pub fn drawn_is_read()
     one_answer();
 }
 
-/// Each row of a cell of a printed sheet that has no label is refused as blank.
+/// In a cell without a label, each row of a printed sheet is refused as blank.
 pub fn empty_cells_are_blank()
     ensures { EmptyCellsAreBlank }
 {}
@@ -57,27 +57,27 @@ pub fn grids_keep_limits(grid: &Grid)
     let _rows = grid.rows;
 }
 
-/// Sheets that are written, at most 4,096, are read as the same sheets.
+/// Sheets that are written, at most 4,096, read back as the same sheets.
 pub fn written_is_read()
     ensures { WrittenIsRead }
 {}
 
-/// Printed sheets, at most 4,096, that are written are read as the same sheets.
+/// Printed sheets that are written, at most 4,096, read back as the same sheets.
 pub fn printed_is_read()
     ensures { PrintedIsRead }
 {}
 
-/// What is read as a header is exactly the headers of at most 4,096 bytes.
+/// The reader accepts exactly the headers of at most 4,096 bytes.
 pub fn headers_are_read()
     ensures { HeadersAreRead }
 {}
 
-/// What is read as a file is exactly the files of at most 4,096 images.
+/// The reader accepts exactly the files of at most 4,096 images.
 pub fn files_are_read()
     ensures { FilesAreRead }
 {}
 
-/// A header is refused, at the byte that decides, exactly for what its grammar says.
+/// A header is refused exactly for the reasons of its grammar, at the byte that decides.
 pub fn headers_are_refused()
     ensures { HeadersAreRefused }
 {}
@@ -92,12 +92,12 @@ pub fn one_list_of_sheets()
     ensures { OneListOfSheets }
 {}
 
-/// A bitmap of bytes is fixed by its width, its height and its dots.
+/// Width, height and dots determine the bytes of a bitmap.
 pub fn one_bitmap()
     ensures { OneBitmap }
 {}
 
-/// Labels are printed in a grid as one list of sheets.
+/// Labels in a grid are printed as exactly one list of sheets.
 pub fn one_printed()
     ensures { OnePrinted }
 {}

@@ -28,7 +28,7 @@ pub(crate) fn light_line(width: u16) -> ArrayVec<u8, LONGEST>
     line
 }
 
-/// The bits of a byte's dots from one on and before another, its first dot in the high bit.
+/// The bits of a byte's dots from one index up to another, the first dot in the high bit.
 fn bits_of(from: usize, end: usize) -> u8
     requires order { from ≤ end }
     requires within { end ≤ 8 }
@@ -37,8 +37,8 @@ fn bits_of(from: usize, end: usize) -> u8
     ((0xFFu16 >> from) - (0xFFu16 >> end)) as u8
 }
 
-/// Makes at most eight dots dark, `count` from dot `from` on, in the byte of the first and the one after it: without a
-/// loop, whose end the processor would guess wrong for half of all bars.
+/// Makes at most eight dots dark, `count` from dot `from` on, in two bytes. It has no loop, whose end the processor
+/// would mispredict for half of all bars.
 fn darken_few(line: &mut [u8], from: usize, count: usize)
     requires few { count ≤ 8 }
     requires within { from / 8 + 1 < length line.old }
@@ -87,7 +87,7 @@ fn draw(line: &mut [u8], from: usize, modules: &[u8], dots: usize)
     }
 }
 
-/// Draws a bar row of a row of cells on light dots.
+/// Draws a bar row of a row of cells onto light dots.
 pub(crate) fn draw_line(line: &mut [u8], grid: &Grid, labels: &[Label])
     requires light { line.old ≡ replicate (stride (grid.now.columns * grid.now.width)) 0 }
     requires few { length labels.now ≤ grid.now.columns }

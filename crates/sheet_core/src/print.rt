@@ -13,9 +13,9 @@ use crate::line::{draw_line, light_line};
 use crate::sheet::{Sheet, stride};
 use std::alloc::{AllocError, Global};
 
-/// Whether all labels are printed: each has a symbol, which fits its cell with its quiet zones. They are
-/// looked at in order; the first without such a symbol is `LabelKind`, the first that is too wide
-/// `LabelWidth`, whichever comes first, with its index. It takes no memory.
+/// Whether all labels can be printed: each has a symbol that fits its cell with its quiet zones. It checks them in
+/// order. The first without a symbol is `LabelKind`, the first that is too wide `LabelWidth`, whichever comes first,
+/// with its index. It takes no memory.
 pub fn check_labels(labels: &[Label], grid: &Grid) -> Result<(), SheetFault>
     ensures ok { OnOk result (AllByRecursion (IsPrintable grid.now) labels.now) }
     ensures err { IfErr result (IsSheetFault grid.now labels.now) }
@@ -31,7 +31,7 @@ pub fn check_labels(labels: &[Label], grid: &Grid) -> Result<(), SheetFault>
     Ok(())
 }
 
-/// The labels from an index on, `count` of them or all that there are.
+/// The labels from an index on, at most `count` of them.
 pub(crate) fn part(labels: &[Label], from: usize, count: usize) -> &[Label]
     ensures { result.now ≡ take count (drop from labels.now) }
 {
@@ -66,7 +66,7 @@ fn push_band(bytes: &mut Vec<u8>, grid: &Grid, labels: &[Label]) -> Result<(), A
     push_rows(bytes, light.as_slice(), grid.module_dots)
 }
 
-/// The sheet of at most as many labels as it has cells.
+/// The sheet of labels, at most as many as it has cells.
 fn print_sheet(alloc: Global, labels: &[Label], grid: &Grid) -> Result<Sheet, AllocError>
     requires few { length labels.now ≤ cell_count grid.now }
     requires symbols { (symbols : List Drawn) × AllZip IsDrawn labels.now symbols × AllByRecursion (FitsCell grid.now) symbols }
@@ -87,13 +87,12 @@ fn print_sheet(alloc: Global, labels: &[Label], grid: &Grid) -> Result<Sheet, Al
     })
 }
 
-/// The sheets of labels in the cells of a grid, row by row from the left, as many as it takes: on the
-/// last of them cells may stay light. No labels give no sheets.
+/// The sheets of labels in the cells of a grid, row by row from the left, as many sheets as needed. Cells of the last
+/// sheet may stay light. No labels give no sheets.
 ///
-/// A symbol begins after its nominal left quiet zone, and its bars stand in all rows of its cell but a
-/// module's above and below. The labels are looked at in order, before any memory is taken: one without
-/// such a symbol is `LabelKind`, one that is wider with its quiet zones than its cell `LabelWidth`, both
-/// with its index.
+/// A symbol begins after its nominal left quiet zone. Its bars fill all rows of its cell except one module's height
+/// at the top and at the bottom. Before it takes any memory, it checks the labels in order: one without a symbol is
+/// `LabelKind`, one that is wider than its cell, with its quiet zones, `LabelWidth`, both with its index.
 pub fn print_sheets(alloc: Global, labels: &[Label], grid: Grid) -> Result<Vec<Sheet>, SheetFault>
     ensures ok { IfOk result (λ sheets. ArePrinted labels.now grid sheets.items) }
     ensures taken { OnOk result (AllByRecursion (IsPrintable grid) labels.now) }

@@ -27,7 +27,7 @@ impl Model for Sheet {
     ghost invariant = { λ s. IsBitmap (record { width = s.width; height = s.height; bytes = s.bytes.items }) };
 }
 
-/// The bytes that a row of this many dots takes.
+/// How many bytes a row of this many dots takes.
 pub(crate) fn stride(width: u16) -> usize
     ensures { result ≡ stride width }
 {
@@ -60,7 +60,7 @@ impl Sheet {
         (byte >> (7 - x % 8)) % 2 == 1
     }
 
-    /// A copy of the sheet. Only memory can be refused.
+    /// A copy of the sheet. The only error is refused memory.
     pub(crate) fn copy(&self, alloc: Global) -> Result<Sheet, NoMemory>
         ensures { IfOk result (λ s. s ≡ self.now) }
     {
@@ -74,7 +74,7 @@ impl Sheet {
         })
     }
 
-    /// The list of its bytes, whose memory another sheet is to have.
+    /// The list of its bytes, so that another sheet can reuse the memory.
     pub(crate) fn into_bytes(self) -> Vec<u8>
         ensures { result.items ≡ self.bytes }
     {
@@ -94,7 +94,7 @@ impl Sheet {
         }
     }
 
-    /// The runs of row `y`. Only memory can be refused.
+    /// The runs of row `y`. The only error is refused memory.
     pub fn row(&self, alloc: Global, y: u16) -> Result<Runs, NoMemory>
         requires { y < self.now.height }
         ensures dots { IfOk result (λ r. dots_of r ≡ dots_in self.now 0 y self.now.width) }
@@ -102,8 +102,8 @@ impl Sheet {
         self.part(alloc, 0, y, self.width)
     }
 
-    /// The runs of row `y` of a cell of a sheet that has the grid's size, `y` counted from the cell's top
-    /// and cells row by row from the top left. Only memory can be refused.
+    /// The runs of row `y` of a cell, if the sheet has the size of the grid. `y` counts from the top of the cell;
+    /// cells count row by row from the top left. The only error is refused memory.
     pub fn cell_row(&self, alloc: Global, grid: &Grid, cell: u16, y: u16) -> Result<Runs, NoMemory>
         requires wide { self.now.width ≡ grid.now.columns * grid.now.width }
         requires high { self.now.height ≡ grid.now.rows * grid.now.height }

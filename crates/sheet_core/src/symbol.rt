@@ -24,7 +24,7 @@ impl Model for DrawnSymbol {
     ghost invariant = { λ s. (s.quiet_left ≤ 11) × (s.quiet_right ≤ 11) };
 }
 
-/// The widths of modules together.
+/// The width of all modules together.
 pub(crate) fn total(modules: &Modules) -> u32
     ensures sum { result ≡ sum modules.now }
     ensures most { result ≤ 2380 }

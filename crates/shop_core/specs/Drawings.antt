@@ -79,7 +79,7 @@ bar_count modules = (length modules + 1) / 2
 abbrev pub IsBar : Zone → ℕ → ℕ → Part → Type 0
 IsBar z left width p = (p.ink ≡ Bar) × (p.left ≡ left) × (p.width ≡ width) × (p.top ≤ z.top) × (z.bottom ≤ p.top + p.height)
 
--- part k is bar k: it begins behind the modules before it and has its own, each of so many dots
+-- part k is bar k: it begins behind the modules before it and is as wide as its own, with this many dots per module
 abbrev pub AreBars : Zone → ℕ → List ℕ → List Part → Type 0
 AreBars z dots modules parts =
     (k : ℕ) (p : Part) → 2 * k < length modules → IsBar z (z.from + dots * sum (take (2 * k) modules)) (dots * slice_index modules (2 * k)) (slice_index_or parts k p)
@@ -175,8 +175,8 @@ is_one_piece Price = true
 is_one_piece OldPrice = true
 is_one_piece field = false
 
--- whether letters lie in a text of so many letters and are all of it if it is a price, are cut only if they may be and more follow, and are struck
--- if they are the old price
+-- whether letters lie in a text of this many letters; are all of it if it is a price; are cut only if they may be and more follow; and are struck
+-- through exactly if they are the old price
 abbrev pub is_right_run : ℕ → Run → Bool
 is_right_run letters run =
     let end : ℕ = run.from + run.count in
@@ -241,19 +241,19 @@ has_price letters ink = false
 abbrev pub shows_price : ℕ → Part → Bool
 shows_price letters p = has_price letters p.ink
 
--- whether a price of so many letters is on the label whole and in one line, if there is one
+-- whether a price of this many letters is complete and in one line on the label, if there is one
 abbrev pub keeps_price : ℕ → List Part → Bool
 keeps_price letters parts = (letters == 0) || list_any (shows_price letters) parts
 
 -- ---- labels
 
--- the drawing has this size, and modules of so many dots
+-- the drawing has this size, and this many dots per module
 abbrev pub IsOfSize : ℕ → ℕ → ℕ → Drawing → Type 0
 IsOfSize width height dots d = (d.width ≡ width) × (d.height ≡ height) × (d.module ≡ dots)
 
--- the drawing is a label of the article: its parts lie on it and apart from each other; first come the bars of the article's symbol, and the others
--- are letters, or the bearers that are wanted, and keep out of the rows and columns of the symbol and its quiet zones; each text is shown or told to
--- go on, and the price is whole; each row through the bars answers the article, and nothing else
+-- the drawing is a label of the article: its parts lie on it and do not overlap; the first are the bars of the article's symbol, the others letters
+-- or the bearers that are wanted, outside the rows and columns of the symbol and its quiet zones; it shows each text or marks that the text goes on,
+-- and the price is complete; each row through the bars reads back as the article and nothing else
 pub record IsDrawingOf (drawing : Drawing) (article : Article) (year : Terms) : Type 0 where
   pub has_bars : drawing.top < drawing.end
   pub bars_on : drawing.end ≤ drawing.height

@@ -1,4 +1,4 @@
-//! What is read of articles, and how they are made.
+//! Makes articles, and reads their texts.
 ghost use Rattle.std.specs.Prelude.{◌≡◌, ◌&&◌, IfErr, IfOk};
 ghost use Rattle.sheet_core.specs.Labels.{Drawn, IsDrawn};
 ghost use Rattle.shop_core.specs.Drawings.{is_itf14, text_of};
@@ -20,7 +20,7 @@ fn is_itf14(label: &Label) -> bool
 }
 
 impl<'a> Article<'a> {
-    /// The article with this label and these texts. An ITF-14 has bearers if asked.
+    /// The article with this label and these texts. An ITF-14 has bearer bars if the caller asks for them.
     pub fn new(label: Label, texts: Texts<'a>, has_bearers: bool) -> Result<Article<'a>, LabelFault>
         ensures label { IfOk result (λ article. article.label ≡ label) }
         ensures texts { IfOk result (λ article. article.texts ≡ texts.entry) }

@@ -1,4 +1,4 @@
-//! The symbol of a drawn label: its bars, and what else lies in its zone.
+//! Checks the symbol of a drawn label: its bars, and what else is in its zone.
 ghost use Rattle.std.specs.Prelude.{◌≡◌, ◌↔◌, ◌<◌, ◌≤◌, ◌*◌, ◌/◌, IsTrue, ℕ, length, slice_index_or, sum};
 ghost use Rattle.std.specs.List.{list_any};
 ghost use Rattle.ean_code.specs.Widths.{AreModules};
@@ -30,7 +30,7 @@ fn is_bar_at(parts: &[Part], run: usize, zone: &Zone, left: u64, width: u64) -> 
     parts[run / 2].is_bar(zone, left, width)
 }
 
-/// Whether the first parts are the bars of these modules, each of so many dots.
+/// Whether the first parts are the bars of these modules, with this many dots per module.
 pub(crate) fn are_bars(parts: &[Part], modules: &[u8], zone: &Zone, dots: u16) -> bool
     requires modules { AreModules modules.now }
     requires enough { bar_count modules.now ≤ length parts.now }
@@ -47,7 +47,7 @@ pub(crate) fn are_bars(parts: &[Part], modules: &[u8], zone: &Zone, dots: u16) -
     true
 }
 
-/// Whether each part from one on lies outside a zone, and is letters or a bearer that is wanted.
+/// Whether each part from this one on is outside a zone, and is letters or a bearer that is wanted.
 pub(crate) fn are_others(parts: &[Part], bearers: bool, zone: &Zone, first: usize) -> bool
     ensures { IsTrue result ↔ AreOthers bearers zone.now first parts.now }
 {
@@ -59,7 +59,7 @@ pub(crate) fn are_others(parts: &[Part], bearers: bool, zone: &Zone, first: usiz
     true
 }
 
-/// Whether a bearer lies right above a zone.
+/// Whether a bearer is directly above a zone.
 fn is_borne_above(parts: &[Part], zone: &Zone) -> bool
     ensures { result ≡ list_any (bears_above zone.now) parts.now }
 {
@@ -71,7 +71,7 @@ fn is_borne_above(parts: &[Part], zone: &Zone) -> bool
     false
 }
 
-/// Whether a bearer lies right below a zone.
+/// Whether a bearer is directly below a zone.
 fn is_borne_below(parts: &[Part], zone: &Zone) -> bool
     ensures { result ≡ list_any (bears_below zone.now) parts.now }
 {
@@ -83,7 +83,7 @@ fn is_borne_below(parts: &[Part], zone: &Zone) -> bool
     false
 }
 
-/// Whether a bearer lies above a zone and one below it, if they are wanted.
+/// Whether there is a bearer above a zone and one below it, if they are wanted.
 pub(crate) fn keep_bearers(parts: &[Part], wanted: bool, zone: &Zone) -> bool
     ensures { result ≡ keeps_bearers wanted zone.now parts.now }
 {

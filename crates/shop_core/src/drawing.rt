@@ -1,4 +1,4 @@
-//! Drawn labels, and the last look at each of them.
+//! Drawn labels, and the final check of each.
 ghost use Rattle.std.specs.Prelude.{◌≡◌, ◌↔◌, ◌<◌, ◌≤◌, ◌+◌, ◌*◌, All, AllPairs, IsTrue, length, slice_index_or, ℕ};
 ghost use Rattle.shop_core.specs.Drawings.{LieApart, IsDrawingOf, LiesOn, bar_count, zone_of};
 
@@ -21,24 +21,24 @@ pub struct Drawing {
     pub height: u16,
     /// First the bars of its symbol, from the left.
     pub parts: ArrayVec<Part, MOST_PARTS>,
-    /// The first row through the bars, and the one below the last.
+    /// The first row through the bars, and the row below the last one.
     pub top: u16,
     pub end: u16,
     /// Where the left quiet zone begins, and the dots of a module.
     pub left: u16,
     pub module: u16,
-    /// The height of bars that the standard asks for, in 1/64 dot.
+    /// The height of bars in the standard, in 1/64 dot.
     pub nominal: u32,
 }
 
-/// Where a quiet zone ends that begins here and has so many modules of so many dots.
+/// Where a quiet zone ends that begins here, by its modules and their dots.
 fn quiet_end(left: u16, dots: u16, count: u8) -> u32
     ensures { result ≡ left + dots * count }
 {
     u32::from(left) + u32::from(dots) * u32::from(count)
 }
 
-/// Where modules end that begin here, each of so many dots.
+/// Where modules end that begin here, by their dots.
 fn modules_end(from: u64, dots: u16, count: u64) -> u64
     requires near { from ≤ 20_000_000_000 }
     requires few { count ≤ 255 * 595 }
@@ -85,7 +85,7 @@ fn lie_on(parts: &[Part], width: u16, height: u16) -> bool
     true
 }
 
-/// Whether a part lies apart from each behind it.
+/// Whether a part overlaps none of those behind it.
 fn is_apart_behind(parts: &[Part], place: usize) -> bool
     requires { place < length parts.now }
     ensures { IsTrue result ↔ ((j : ℕ) (d : Part) → place < j → j < length parts.now
@@ -99,7 +99,7 @@ fn is_apart_behind(parts: &[Part], place: usize) -> bool
     true
 }
 
-/// Whether any two parts lie apart.
+/// Whether no two parts overlap.
 fn lie_apart(parts: &[Part]) -> bool
     ensures { IsTrue result ↔ AllPairs LieApart parts.now }
 {
@@ -111,12 +111,12 @@ fn lie_apart(parts: &[Part]) -> bool
     true
 }
 
-/// Whether a drawing is a label of an article: it has bars, all its parts lie on it and apart from each other, the
-/// first are the bars of the article's symbol, the others are letters or bearers and keep out of the rows and columns
-/// of the symbol and its quiet zones, each text is shown or told to go on, the price is whole, and each row through the
-/// bars answers the article, and nothing else.
+/// Whether a drawing is a label of an article. It has bars, and all its parts lie on it and do not overlap. The first
+/// parts are the bars of the article's symbol. The others are letters or bearer bars outside the rows and columns of
+/// the symbol and its quiet zones. It shows each text, or marks that the text goes on; the price is complete. Each
+/// row through the bars reads back as the article and nothing else.
 ///
-/// `row` has room for a row of its dots. What it held does not matter.
+/// `row` has room for a row of its dots. Its content does not matter.
 pub fn check_drawing(drawing: &Drawing, article: &Article, year: Year, row: &mut [u8]) -> bool
     requires { drawing.now.width ≤ 8 * length row.old }
     ensures { IsTrue result ↔ IsDrawingOf drawing.now article.now year }

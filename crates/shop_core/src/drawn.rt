@@ -1,4 +1,4 @@
-//! Labels of articles.
+//! Draws labels of articles.
 ghost use Rattle.std.specs.Prelude.{IfOk, ◌*◌, ◌≤◌, length};
 ghost use Rattle.sheet_core.specs.Labels.{IsDrawn};
 ghost use Rattle.shop_core.specs.Drawings.{IsOfSize, IsDrawingOf};
@@ -10,9 +10,9 @@ use crate::layout::sketch;
 use crate::plan::{Item, Plan};
 use element_core::Year;
 
-/// The label of an article, or why it has none. A label is answered only if the last look at it finds all right.
+/// The label of an article, or why it has none. It returns only labels that pass the final check.
 ///
-/// `row` has room for a row of 65,535 dots. What it held does not matter.
+/// `row` has room for a row of 65,535 dots. Its content does not matter.
 pub fn draw(item: &Item, plan: &Plan, year: Year, row: &mut [u8]) -> Result<Drawing, LabelFault>
     requires { 65535 ≤ 8 * length row.old }
     ensures label { IfOk result (λ drawing. IsDrawingOf drawing item.now.article.now year) }

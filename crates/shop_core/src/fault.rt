@@ -3,22 +3,22 @@
 /// Why an article has no label.
 #[derive(Clone, Copy, Debug, PartialEq, Eq)]
 pub enum LabelFault {
-    /// Its content has no symbol of its kind.
+    /// The content has no symbol of its kind.
     NoSymbol,
-    /// A measure of the label or of a font is out of its range.
+    /// A measure of the label or of a font is out of range.
     Measures,
-    /// The width of a module that was asked for is out of the range of the symbol's kind.
+    /// The requested width of a module is out of range for the kind of symbol.
     Module,
-    /// The height of bars that was asked for is not 5 to 100 mm.
+    /// The requested height of bars is not 5 to 100 mm.
     Bars,
     /// The label is too narrow for the symbol.
     TooWide,
-    /// A price or another text that must be whole has no room.
+    /// There is no room for a price or another text that must be complete.
     NoPlace,
-    /// The bars would be lower than 5 mm.
+    /// The bars would be less than 5 mm high.
     NoHeight,
     /// There are more than 8 further lines.
     Lines,
-    /// What was drawn is not right.
+    /// The drawing failed the final check.
     Misdrawn,
 }

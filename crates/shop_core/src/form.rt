@@ -1,9 +1,9 @@
-//! Kinds of symbols, as they are laid out (GS1 General Specifications, sections 5.2 to 5.4 and 5.12.3).
+//! How each kind of symbol is laid out (GS1 General Specifications, sections 5.2 to 5.4 and 5.12.3).
 
 use sheet_core::{GtinKind, LabelKind};
 
-/// Digits side by side, each in the middle of a cell: the first of them, how many, the module at which the first cell
-/// begins, counted from 20 modules left of the first bar, and the modules of a cell.
+/// Digits side by side, each in the middle of a cell: the first digit, how many there are, the module at which the
+/// first cell begins, counted from 20 modules left of the first bar, and the modules of a cell.
 pub(crate) type Group = (u8, u8, u8, u8);
 
 /// Modules from one up to another.
@@ -13,7 +13,7 @@ pub(crate) struct Stretch {
     end: u32,
 }
 
-/// The width of a module, in mm: the least, the wanted and the most.
+/// The width of a module, in mm: the least, the nominal and the greatest.
 #[derive(Clone, Copy)]
 pub(crate) struct ModuleRange {
     pub(crate) least: f64,
@@ -49,12 +49,12 @@ const LONG_EAN8: [Stretch; 3] = [
 
 const LONG_UPCE: [Stretch; 2] = [Stretch { from: 0, end: 3 }, Stretch { from: 45, end: 51 }];
 
-/// Whether a kind is one of a shop's: its digits stand in groups.
+/// Whether a kind is one for shops: its digits are in groups.
 pub(crate) fn is_retail(kind: LabelKind) -> bool {
     !matches!(kind, LabelKind::Gtin(GtinKind::Itf14) | LabelKind::Gs1128)
 }
 
-/// How wide modules of a kind may be.
+/// The allowed widths of modules of a kind.
 pub(crate) fn module_range(kind: LabelKind) -> ModuleRange {
     if is_retail(kind) {
         ModuleRange {
@@ -71,7 +71,7 @@ pub(crate) fn module_range(kind: LabelKind) -> ModuleRange {
     }
 }
 
-/// The height of bars for the wanted module, in mm.
+/// The height of bars for the nominal module, in mm.
 pub(crate) fn bars_mm(kind: LabelKind) -> f64 {
     match kind {
         LabelKind::Gtin(GtinKind::Ean8) => 18.23,
@@ -80,7 +80,7 @@ pub(crate) fn bars_mm(kind: LabelKind) -> f64 {
     }
 }
 
-/// Where the digits of a kind stand, if they do in groups.
+/// Where the digits of a kind are, if they are in groups.
 pub(crate) fn groups(kind: LabelKind) -> &'static [Group] {
     match kind {
         LabelKind::Gtin(GtinKind::Ean13) => &EAN13,
@@ -91,7 +91,7 @@ pub(crate) fn groups(kind: LabelKind) -> &'static [Group] {
     }
 }
 
-/// The modules of a kind whose bars go down between the digits.
+/// The modules of a kind whose bars extend down between the digits.
 fn long_stretches(kind: LabelKind) -> &'static [Stretch] {
     match kind {
         LabelKind::Gtin(GtinKind::Ean13) => &LONG_EAN13,
@@ -102,7 +102,7 @@ fn long_stretches(kind: LabelKind) -> &'static [Stretch] {
     }
 }
 
-/// Whether the bar at this module goes down between the digits.
+/// Whether the bar at this module extends down between the digits.
 pub(crate) fn is_long(kind: LabelKind, module: u32) -> bool {
     for stretch in long_stretches(kind) {
         if stretch.from <= module && module < stretch.end {

@@ -1,6 +1,7 @@
-//! The layout of a label. Lengths are dots unless a name says mm.
+//! Lays out a label. Lengths are dots unless a name says mm.
 //!
-//! Nothing here is promised but that it ends, and the size: `draw` looks at what was drawn, and answers it only if it is right.
+//! Nothing is promised here except that it ends, and the size: `draw` checks each drawing, and returns only those
+//! that pass.
 ghost use Rattle.std.specs.Prelude.{IfOk};
 ghost use Rattle.shop_core.specs.Drawings.{IsOfSize};
 
@@ -17,10 +18,10 @@ use std::num::{nearest_usize_to_f64, saturating_f64_to_u16};
 
 pub(crate) const LEAST_PRICE_MM: f64 = 2.6;
 
-/// The part of its room that a price takes: quotients are rounded, and a price that is higher than its room is refused.
+/// How much of its room a price takes: quotients are rounded, and a price that is higher than its room is refused.
 const NEARLY_ALL: f64 = 0.999_999;
 
-/// A label that is laid out.
+/// A label while it is laid out.
 #[derive(Drop)]
 pub(crate) struct Sheet<'a> {
     pub(crate) item: &'a Item<'a>,
@@ -57,7 +58,7 @@ impl<'a> Sheet<'a> {
         !self.item.article.text(field).is_empty()
     }
 
-    /// A field in bold.
+    /// A field in bold type.
     pub(crate) fn bold(&self, field: Field) -> Setting<'a> {
         Setting {
             text: self.item.article.text(field),
@@ -67,7 +68,7 @@ impl<'a> Sheet<'a> {
         }
     }
 
-    /// A part of a field in the regular font.
+    /// Part of a field in regular type.
     pub(crate) fn regular(&self, small: Small) -> Setting<'a> {
         let text = self.item.article.text(small.field);
         let part = match text.get(small.span.from..small.span.end) {
@@ -82,7 +83,7 @@ impl<'a> Sheet<'a> {
         }
     }
 
-    /// A field, all of it, in the regular font.
+    /// A whole field in regular type.
     pub(crate) fn field(&self, field: Field) -> Small {
         Small {
             field,
@@ -93,7 +94,7 @@ impl<'a> Sheet<'a> {
         }
     }
 
-    /// The whole width between the white sides.
+    /// The width between the white margins.
     pub(crate) fn across(&self, align: Align) -> Column {
         Column {
             left: self.aside(),
@@ -102,7 +103,7 @@ impl<'a> Sheet<'a> {
         }
     }
 
-    /// The first small texts, so many of them.
+    /// The first small texts, this many.
     pub(crate) fn first(&self, count: usize) -> &[Small] {
         match self.smalls.as_slice().get(..count) {
             Some(first) => first,
@@ -118,7 +119,7 @@ impl<'a> Sheet<'a> {
         }
     }
 
-    /// How high small texts are in this width.
+    /// How high small texts are at this width.
     pub(crate) fn smalls_height(&self, smalls: &[Small], width: f64, sizes: Sizes) -> f64 {
         let mut high = 0.0;
         for small in smalls {
@@ -165,7 +166,7 @@ impl<'a> Sheet<'a> {
         let mut end = top;
         for small in smalls {
             let setting = self.regular(*small);
-            // A little more than its letters take, since sums are rounded.
+            // A little more than its letters need, since sums are rounded.
             let width = setting.width(0, setting.text.len()) * size * share + 0.01;
             let column = Column {
                 left,
@@ -197,7 +198,7 @@ impl<'a> Sheet<'a> {
         self.bold(Field::Name).fitted(width, sizes)
     }
 
-    /// The size of a price whose line is as high as there is room, or a little less.
+    /// The size at which the line of a price is as high as its room, or a little less.
     pub(crate) fn size_in(&self, room: f64) -> f64 {
         NEARLY_ALL * room / self.plan.fonts.bold.pitch()
     }
@@ -211,7 +212,7 @@ impl<'a> Sheet<'a> {
         self.bold(Field::Price).fitted(width, sizes)
     }
 
-    /// The price before, at most as large as asked.
+    /// The old price, at most this large.
     pub(crate) fn old_price(&self, width: f64, largest: f64) -> Block<'a> {
         let sizes = Sizes {
             largest,
@@ -222,8 +223,8 @@ impl<'a> Sheet<'a> {
             .fitted(width, sizes)
     }
 
-    /// Puts the name, the price right of it, the price before below that and the small texts below them, and returns
-    /// where they end.
+    /// Puts the name, the price to the right of it, the old price below the price, and the small texts below all of
+    /// them. Returns where they end.
     pub(crate) fn put_head(&self, parts: &mut Parts) -> Result<f64, LabelFault> {
         let look = &self.plan.look;
         let price = self.price(0.48 * self.room(), self.common().above, 2.2);
@@ -261,7 +262,7 @@ impl<'a> Sheet<'a> {
             smallest: 0.7 * size,
             lines: 1,
         };
-        // Low labels have one line for all.
+        // Low labels have one line for all of them.
         if self.high_mm() < 45.0 && self.smalls.len() > 1 {
             self.put_row(parts, self.smalls.as_slice(), top, sizes)
         } else {
@@ -275,8 +276,8 @@ impl<'a> Sheet<'a> {
         }
     }
 
-    /// Puts the price right of the bars, the price before above it and the small texts below it, down to the label's
-    /// end; or answers that they have no room.
+    /// Puts the price to the right of the bars, the old price above it and the small texts below it, down to the end
+    /// of the label. Returns an error if there is no room for them.
     pub(crate) fn put_price(&self, parts: &mut Parts, top: f64) -> Result<(), LabelFault> {
         let left = self.aside() + self.common().column + self.dots();
         let column = Column {
@@ -308,7 +309,7 @@ impl<'a> Sheet<'a> {
         Ok(())
     }
 
-    /// The price beside the bars if there is room, else above them.
+    /// The price beside the bars if there is room, otherwise above them.
     pub(crate) fn bars_first(&self, parts: &mut Parts) -> Result<Rows, LabelFault> {
         let look = &self.plan.look;
         let bars = self.bars(self.nominal());
@@ -327,7 +328,7 @@ impl<'a> Sheet<'a> {
     }
 }
 
-/// What is drawn of an article. Nobody has looked at it yet.
+/// Draws an article. Nothing has checked the drawing yet.
 pub(crate) fn sketch(item: &Item, plan: &Plan) -> Result<Drawing, LabelFault>
     ensures { IfOk result (IsOfSize plan.now.look.width plan.now.look.height item.now.module) }
 {

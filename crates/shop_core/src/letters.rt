@@ -9,7 +9,7 @@ use std::num::nearest_usize_to_f64;
 /// The most lines of a block.
 const MOST_LINES: usize = 3;
 
-/// A longer text has no room on any label.
+/// Longer texts have no room on any label.
 const MOST_LETTERS: usize = 300;
 
 const ELLIPSIS: u32 = 0x2026;
@@ -22,14 +22,14 @@ const SPACE: u32 = 32;
 #[repr(C)]
 #[derive(Clone, Copy)]
 pub struct Font<'a> {
-    /// The widths of its letters by their code points; 0 of a letter that it lacks.
+    /// The widths of its letters by their code points; 0 if it lacks the letter.
     pub widths: &'a [u16],
-    /// The width of its sign for letters it lacks.
+    /// The width of its replacement for letters that it lacks.
     pub other: u16,
-    /// How far its letters go up above their base line, and how far down below it; together at least half a size.
+    /// How far its letters reach above and below their baseline; together at least half a size.
     pub ascent: u16,
     pub descent: u16,
-    /// How far its digits go up.
+    /// How far its digits reach above the baseline.
     pub digits: u16,
 }
 
@@ -41,7 +41,7 @@ pub struct Fonts<'a> {
     pub bold: Font<'a>,
 }
 
-/// Letters from one on and before another.
+/// Letters from one index up to another.
 #[derive(Clone, Copy, Default)]
 pub(crate) struct Span {
     pub(crate) from: usize,
@@ -53,11 +53,11 @@ pub(crate) struct Span {
 pub(crate) enum Breaks {
     /// At blanks, and behind hyphens.
     Blanks,
-    /// In front of an opening parenthesis, with which each element begins.
+    /// Before an opening parenthesis: each element begins with one.
     Elements,
 }
 
-/// A text, and how it is set.
+/// A text, and how it is typeset.
 #[derive(Clone, Copy)]
 pub(crate) struct Setting<'a> {
     pub(crate) text: &'a [u32],
@@ -74,7 +74,7 @@ pub(crate) struct Sizes {
     pub(crate) lines: u8,
 }
 
-/// Lines of a text in one size, and whether something of it is left out.
+/// Lines of a text in one size, and whether part of it is left out.
 #[derive(Drop)]
 pub(crate) struct Block<'a> {
     pub(crate) setting: Setting<'a>,
@@ -91,7 +91,7 @@ struct Filled {
     widest: f64,
 }
 
-/// A letter of a text. Behind its end is the end of a line.
+/// A letter of a text. Behind the end of the text is the end of a line.
 fn letter(text: &[u32], place: usize) -> u32 {
     match text.get(place) {
         Some(letter) => *letter,
@@ -103,7 +103,7 @@ fn is_digit(letter: u32) -> bool {
     48 <= letter && letter <= 57
 }
 
-/// Whether a hyphen in front of this letter may end a line.
+/// Whether a line may end at a hyphen before this letter.
 fn begins_word(letter: u32) -> bool {
     is_digit(letter)
         || (65 <= letter && letter <= 90)
@@ -111,7 +111,7 @@ fn begins_word(letter: u32) -> bool {
         || letter > 127
 }
 
-/// Whether a line may end at this blank. None ends between a number and its unit of one or two letters.
+/// Whether a line may end at this blank: not between a number and its unit of one or two letters.
 fn is_gap(text: &[u32], place: usize) -> bool {
     let here = letter(text, place);
     if here == 9 {
@@ -129,7 +129,7 @@ fn is_gap(text: &[u32], place: usize) -> bool {
     !(is_behind_digit && begins_unit && ends_unit)
 }
 
-/// The first place from one on that has a blank or the end of a line, or if asked a hyphen.
+/// The first place from here on that has a blank, the end of a line or, if the caller asks, a hyphen.
 fn word_end(text: &[u32], from: usize, at_hyphen: bool) -> usize {
     for place in from..text.len() {
         let here = letter(text, place);
@@ -160,7 +160,7 @@ fn gaps_end(text: &[u32], from: usize) -> usize {
     from.max(text.len())
 }
 
-/// Where the element from a place on ends: in front of the next opening parenthesis.
+/// Where the element from a place on ends: before the next opening parenthesis.
 fn element_end(text: &[u32], from: usize) -> usize {
     for place in from.saturating_add(1)..text.len() {
         if letter(text, place) == 40 {
@@ -170,7 +170,7 @@ fn element_end(text: &[u32], from: usize) -> usize {
     text.len()
 }
 
-/// The end of the word from a place on, and that of the blanks behind it. A hyphen ends a word too, if a letter
+/// The end of the word from a place on, and that of the blanks behind it. A word also ends at a hyphen if a letter
 /// follows.
 fn word(text: &[u32], from: usize) -> Span {
     let hyphen = word_end(text, from, true);
@@ -189,7 +189,7 @@ fn word(text: &[u32], from: usize) -> Span {
 }
 
 impl<'a> Font<'a> {
-    /// How wide a letter is, in sizes.
+    /// The width of a letter, in sizes.
     fn letter_width(&self, letter: u32) -> f64 {
         let width = match self.widths.get(letter as usize) {
             Some(0) | None => self.other,
@@ -198,7 +198,7 @@ impl<'a> Font<'a> {
         f64::from(u32::from(width)) / 16_384.0
     }
 
-    /// How wide letters of a text are, in sizes.
+    /// The width of the letters of a text, in sizes.
     pub(crate) fn width(&self, text: &[u32], from: usize, end: usize) -> f64 {
         let mut width = 0.0;
         for place in from..end.min(text.len()) {
@@ -207,7 +207,7 @@ impl<'a> Font<'a> {
         width
     }
 
-    /// How far its letters go up, in sizes.
+    /// How far its letters reach above the baseline, in sizes.
     pub(crate) fn rise(&self) -> f64 {
         f64::from(self.ascent) / 16_384.0
     }
@@ -264,7 +264,7 @@ impl<'a> Setting<'a> {
         }
     }
 
-    /// How wide the letters of a span are, in sizes.
+    /// The width of the letters of a span, in sizes.
     pub(crate) fn width(&self, from: usize, end: usize) -> f64 {
         self.font.width(self.text, from, end)
     }
@@ -277,7 +277,7 @@ impl<'a> Setting<'a> {
         }
     }
 
-    /// Lines with as many words each as have room.
+    /// Lines with as many words each as fit.
     fn fill(&self, width: f64) -> Filled {
         let mut filled = Filled::new();
         let mut place = 0usize;
@@ -312,7 +312,7 @@ impl<'a> Setting<'a> {
         filled
     }
 
-    /// Lines in which a word that is too long is cut into pieces that have room.
+    /// Lines in which words that are too long are cut into pieces that fit.
     fn broken(&self, lines: &Filled, width: f64) -> Filled {
         let mut pieces = Filled::new();
         for line in lines.lines.as_slice() {
@@ -333,7 +333,7 @@ impl<'a> Setting<'a> {
         pieces
     }
 
-    /// The part of a line that has room with an ellipsis behind it.
+    /// The part of a line that fits with an ellipsis behind it.
     fn shortened(&self, line: Span, width: f64) -> Span {
         let mut end = line.end;
         for _ in line.from..line.end {
@@ -353,7 +353,7 @@ impl<'a> Setting<'a> {
         self.font.letter_width(ELLIPSIS)
     }
 
-    /// The lines of the largest of these sizes in which a text has at most so many.
+    /// The lines of the largest of these sizes at which a text has at most this many lines.
     fn in_lines(&self, width: f64, largest: f64, smallest: f64, most: u8) -> Option<Block<'a>> {
         let mut size = largest;
         for _ in 0..200u8 {
@@ -375,8 +375,8 @@ impl<'a> Setting<'a> {
         None
     }
 
-    /// The text in few lines of this width. It takes one more line only if the size would otherwise be below three
-    /// quarters of the largest. What has no room in the smallest size is cut.
+    /// The text in as few lines of this width as possible. It takes one more line only if the size would otherwise be
+    /// below three quarters of the largest. Text that does not fit at the smallest size is cut.
     pub(crate) fn fitted(&self, width: f64, sizes: Sizes) -> Block<'a> {
         if self.text.len() > MOST_LETTERS {
             return self.cut(width, sizes);
@@ -394,7 +394,7 @@ impl<'a> Setting<'a> {
         self.cut(width, sizes)
     }
 
-    /// The text in its smallest size, cut if it has no room.
+    /// The text at its smallest size, cut if it does not fit.
     fn cut(&self, width: f64, sizes: Sizes) -> Block<'a> {
         let front = Setting {
             text: &self.text[..self.text.len().min(MOST_LETTERS)],
@@ -421,12 +421,12 @@ impl<'a> Setting<'a> {
 }
 
 impl<'a> Block<'a> {
-    /// How high its lines are.
+    /// The height of its lines.
     pub(crate) fn height(&self) -> f64 {
         nearest_usize_to_f64(self.lines.len()) * self.size * self.setting.font.pitch()
     }
 
-    /// How wide a line is, with the ellipsis behind the last if it is cut.
+    /// The width of a line, with the ellipsis behind the last if it is cut.
     pub(crate) fn line_width(&self, number: usize) -> f64 {
         let Some(line) = self.lines.as_slice().get(number) else {
             return 0.0;
@@ -444,7 +444,7 @@ impl<'a> Block<'a> {
         self.is_cut && number.saturating_add(1) == self.lines.len()
     }
 
-    /// How wide its widest line is.
+    /// The width of its widest line.
     pub(crate) fn width(&self) -> f64 {
         let mut widest = 0.0f64;
         for number in 0..self.lines.len() {

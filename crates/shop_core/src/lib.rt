@@ -1,4 +1,4 @@
-//! Labels of a shop, laid out and looked at: what is drawn of an article, and where.
+//! Shop labels: lays out the label of an article, and checks the drawing.
 #![tactic(auto)]
 
 mod article;

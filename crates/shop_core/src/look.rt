@@ -7,14 +7,14 @@ use crate::fault::LabelFault;
 pub struct Look {
     pub width: u16,
     pub height: u16,
-    /// How much stays white at each side, and above and below.
+    /// The white margin at each side, and above and below.
     pub aside: f64,
     pub above: f64,
-    /// Dots of a millimetre, 4 to 100.
+    /// Dots per millimetre, 4 to 100.
     pub dots: f64,
-    /// The width of a module, if it is not the standard's.
+    /// The width of a module, unless it is the standard's.
     pub module_mm: Option<f64>,
-    /// The height of the bars, 5 to 100, if it is not the look's.
+    /// The height of the bars, 5 to 100, unless it is the look's.
     pub bars_mm: Option<f64>,
     /// Whether the price is the largest, and the bars are a strip below it.
     pub is_price_first: bool,
@@ -48,12 +48,12 @@ impl Look {
         f64::from(self.height)
     }
 
-    /// How wide texts may be.
+    /// The greatest width of texts.
     pub(crate) fn room(&self) -> f64 {
         self.wide() - 2.0 * self.aside
     }
 
-    /// How far down anything may stand.
+    /// The lowest row for any part.
     pub(crate) fn bottom(&self) -> f64 {
         self.high() - self.above
     }

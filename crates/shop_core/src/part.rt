@@ -2,14 +2,14 @@
 ghost use Rattle.std.specs.Prelude.{◌≡◌, ◌+◌, ◌↔◌, IsTrue, ℕ};
 ghost use Rattle.shop_core.specs.Drawings.{LieApart, IsBar, IsOther, IsOutside, LiesOn, bears_above, bears_below, ends_line, field_number, has_letter, has_row, is_across, is_blank, is_cut_at, is_old, is_one_piece, is_right_run, is_wanted, may_go_on, run_has, run_is_cut, shows_price};
 
-/// What is drawn in a part.
+/// The content of a part.
 #[derive(Clone, Copy, Debug, PartialEq, Eq)]
 pub enum Ink {
-    /// A bar of the symbol, dark all over.
+    /// A bar of the symbol, all dark.
     Bar,
-    /// A bar above or below the symbol, dark all over.
+    /// A bar above or below the symbol, all dark.
     Bearer,
-    /// Letters of a text: where they stand in it, and how they are set. They lie in the part.
+    /// Letters of a text: their place in it, and how they are typeset. They lie in the part.
     Letters(Run),
 }
 
@@ -24,31 +24,32 @@ pub enum Field {
     BestBefore,
     Batch,
     Lines,
-    /// What people read under the symbol.
+    /// The text under the symbol.
     Digits,
 }
 
-/// Letters of a text of an article, and how they are set. Lengths are 1/64 dot.
+/// Letters of a text of an article, and how they are typeset. Lengths are in 1/64 dot.
 #[derive(Clone, Copy, Debug, PartialEq, Eq)]
 pub struct Run {
     pub field: Field,
     /// The first of its letters, and how many there are.
     pub from: u16,
     pub count: u16,
-    /// Whether an ellipsis follows, since the text goes on.
+    /// Whether an ellipsis follows because the text goes on.
     pub is_cut: bool,
     pub is_bold: bool,
     /// Whether a line goes through it.
     pub is_struck: bool,
     pub size: u32,
-    /// Where it begins, and its base line.
+    /// Where it begins, and its baseline.
     pub left: u32,
     pub base: u32,
-    /// From letter to letter, each in the middle of this much; 0 if they follow one another by their own widths.
+    /// The width of each letter's cell, with the letter in the middle; 0 if letters follow one another by their own
+    /// widths.
     pub step: u32,
 }
 
-/// A rectangle of whole dots of a label, and what is drawn in it.
+/// A rectangle of whole dots on a label, and its content.
 #[derive(Clone, Copy, Debug, PartialEq, Eq)]
 pub struct Part {
     pub left: u16,
@@ -58,8 +59,8 @@ pub struct Part {
     pub ink: Ink,
 }
 
-/// The columns of a symbol: where its left quiet zone begins, its bars begin, and its right quiet zone ends; and its
-/// rows.
+/// The columns of a symbol: where its left quiet zone begins, where its bars begin, and where its right quiet zone
+/// ends; and its rows.
 #[derive(Clone, Copy)]
 pub(crate) struct Zone {
     pub(crate) left: u64,
@@ -103,7 +104,7 @@ impl Run {
         usize::from(self.from) + usize::from(self.count)
     }
 
-    /// Whether it has this letter of the text of the field of this number.
+    /// Whether it has this letter of the text of the field with this number.
     fn has(&self, field: u8, place: usize) -> bool
         ensures { result ≡ run_has field place self.now }
     {
@@ -112,7 +113,7 @@ impl Run {
         number == field && (usize::from(self.from) <= place && place < end)
     }
 
-    /// Whether it has an ellipsis in front of this letter of the text of the field of this number.
+    /// Whether it has an ellipsis before this letter of the text of the field with this number.
     fn is_cut_at(&self, field: u8, place: usize) -> bool
         ensures { result ≡ run_is_cut field place self.now }
     {
@@ -121,8 +122,8 @@ impl Run {
         number == field && (self.is_cut && end == place)
     }
 
-    /// Whether it lies in a text of this many letters and is all of it if it is a price, is cut only if it may be and
-    /// more follow, and is struck if it is the old price.
+    /// Whether it lies in a text of this many letters; if it is a price, whether it is all of the text; whether it is
+    /// cut only if it may be and more follows; and whether it is struck through exactly if it is the old price.
     pub(crate) fn is_right(&self, letters: usize) -> bool
         ensures { result ≡ is_right_run letters self.now }
     {
@@ -152,7 +153,7 @@ impl Field {
         }
     }
 
-    /// Whether its text stands in one part.
+    /// Whether its text must be in one part.
     pub(crate) fn is_one_piece(self) -> bool
         ensures { result ≡ is_one_piece self }
     {
@@ -166,7 +167,7 @@ impl Field {
         matches!(self, Field::Name | Field::Lines)
     }
 
-    /// Whether it is the price before.
+    /// Whether it is the old price.
     pub(crate) fn is_old(self) -> bool
         ensures { result ≡ is_old self }
     {
@@ -175,7 +176,7 @@ impl Field {
 }
 
 impl Part {
-    /// Whether it is letters, or a bearer at its place if bearers are wanted.
+    /// Whether it is letters, or a bearer in its place if bearers are wanted.
     fn is_wanted(&self, bearers: bool, zone: &Zone) -> bool
         ensures { result ≡ is_wanted bearers zone.now self.now }
     {
@@ -185,7 +186,7 @@ impl Part {
         }
     }
 
-    /// Whether it lies outside a zone, and is letters or a bearer that is wanted.
+    /// Whether it is outside a zone, and is letters or a bearer that is wanted.
     pub(crate) fn is_other(&self, bearers: bool, zone: &Zone) -> bool
         ensures { IsTrue result ↔ IsOther bearers zone.now self.now }
     {
@@ -202,7 +203,7 @@ impl Part {
             || zone.bottom <= self.top
     }
 
-    /// Whether it is dark in these columns and through all rows of a zone.
+    /// Whether it is dark in these columns, in all rows of a zone.
     pub(crate) fn is_bar(&self, zone: &Zone, left: u64, width: u64) -> bool
         ensures { IsTrue result ↔ IsBar zone.now left width self.now }
     {
@@ -213,14 +214,14 @@ impl Part {
             && u32::from(zone.bottom) <= self.bottom()
     }
 
-    /// Whether it goes over the whole width of a zone.
+    /// Whether it covers the whole width of a zone.
     fn is_across(&self, zone: &Zone) -> bool
         ensures { result ≡ is_across zone.now self.now }
     {
         u64::from(self.left) == zone.left && u64::from(self.right()) == zone.right
     }
 
-    /// Whether it is a bearer right above a zone.
+    /// Whether it is a bearer directly above a zone.
     pub(crate) fn bears_above(&self, zone: &Zone) -> bool
         ensures { result ≡ bears_above zone.now self.now }
     {
@@ -230,7 +231,7 @@ impl Part {
         }
     }
 
-    /// Whether it is a bearer right below a zone.
+    /// Whether it is a bearer directly below a zone.
     pub(crate) fn bears_below(&self, zone: &Zone) -> bool
         ensures { result ≡ bears_below zone.now self.now }
     {
@@ -260,7 +261,7 @@ impl Part {
         }
     }
 
-    /// Whether it shows a price of this many letters whole.
+    /// Whether it shows all of a price of this many letters.
     pub(crate) fn shows_price(&self, letters: usize) -> bool
         ensures { result ≡ shows_price letters self.now }
     {
@@ -292,7 +293,7 @@ impl Part {
         self.right() <= u32::from(width) && self.bottom() <= u32::from(height)
     }
 
-    /// Whether it and another lie apart.
+    /// Whether it and another do not overlap.
     pub(crate) fn is_apart(&self, other: &Part) -> bool
         ensures { IsTrue result ↔ LieApart self.now other.now }
     {

@@ -1,4 +1,4 @@
-//! Parts of a label that is laid out. Lengths are dots.
+//! Parts of a label while it is laid out. Lengths are dots.
 
 use crate::drawing::MOST_PARTS;
 use crate::fault::LabelFault;
@@ -41,7 +41,7 @@ pub(crate) fn short(number: usize) -> u16 {
     number.min(65_535) as u16
 }
 
-/// A rectangle whose edges are at whole dots: its sides further out, its upper and its lower edge further up.
+/// A rectangle with its edges at whole dots: the sides are rounded outward, the upper and the lower edge upward.
 pub(crate) fn part(left: f64, top: f64, right: f64, bottom: f64, ink: Ink) -> Part {
     let from = saturating_f64_to_u16(left.floor());
     let up = saturating_f64_to_u16(top.floor());

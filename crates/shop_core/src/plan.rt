@@ -1,4 +1,4 @@
-//! What labels of a list have in common.
+//! What the labels of a list have in common.
 ghost use Rattle.std.specs.Prelude.{◌≡◌, IfOk};
 
 use crate::article::Article;
@@ -19,8 +19,9 @@ pub struct Item<'a> {
     pub module: u16,
 }
 
-/// What of a label counts for the others of its list: how many dots its symbol is wide with its quiet zones, how wide
-/// its price is, in 1/16,384 of its size, and 1 if it is an article's, 0 if it is a case's. C may hand in any byte there.
+/// The measures of a label that matter for the others of its list: how many dots wide its symbol is with its quiet
+/// zones, how wide its price is, in 1/16,384 of its size, and 1 for an article or 0 for a case. C may pass any byte
+/// for the last.
 #[repr(C)]
 #[derive(Clone, Copy, Debug, PartialEq, Eq)]
 pub struct Measure {
@@ -35,8 +36,8 @@ impl Measure {
     }
 }
 
-/// What labels of a list have in common, so that their sheets look even: the dots of the widest symbol with its price
-/// beside it, and the largest size of prices beside symbols and of those above them.
+/// What the labels of a list have in common, so that their sheets look even: the dots of the widest symbol with its
+/// price beside it, and the largest size of prices beside symbols and of prices above them.
 #[repr(C)]
 #[derive(Clone, Copy, Debug)]
 pub struct Common {
@@ -45,7 +46,7 @@ pub struct Common {
     pub above: f64,
 }
 
-/// What the labels of articles have in common, and those of cases, which have other labels.
+/// What the labels of articles have in common, and those of cases, which are laid out differently.
 #[repr(C)]
 #[derive(Clone, Copy, Debug)]
 pub struct Commons {
@@ -75,7 +76,7 @@ pub(crate) fn module_count(article: &Article) -> f64 {
     f64::from(count)
 }
 
-/// The dots of a module: of the numbers that are allowed and have room, that nearest to the wanted width.
+/// The dots of a module: of the numbers that are allowed and fit, the one nearest to the requested width.
 fn module_of(article: &Article, look: &Look) -> Result<u16, LabelFault> {
     let kind = article.label.kind();
     let range = module_range(kind);
@@ -101,7 +102,7 @@ fn module_of(article: &Article, look: &Look) -> Result<u16, LabelFault> {
     let mut away = f64::MAX;
     for module in first..last.saturating_add(1).min(200) {
         let wide = f64::from(module);
-        // Quiet zones may lie in the white at the sides, unless digits stand in them.
+        // Quiet zones may lie in the white margins, unless digits are in them.
         let needed = wide * module_count(article) + 2.0 * (look.aside - wide * quiet).max(0.0);
         let off = (wide / look.dots - wanted).abs();
         if needed <= look.wide() && off < away {
@@ -116,7 +117,7 @@ fn module_of(article: &Article, look: &Look) -> Result<u16, LabelFault> {
 }
 
 impl<'a> Item<'a> {
-    /// The article with the module that it has on this label.
+    /// The article with its module on this label.
     pub fn of(article: &'a Article<'a>, look: &Look) -> Result<Item<'a>, LabelFault>
         ensures { IfOk result (λ item. item.article.now ≡ article.now) }
     {
@@ -133,12 +134,12 @@ impl<'a> Item<'a> {
         f64::from(self.module)
     }
 
-    /// How wide the symbol is with its quiet zones.
+    /// The width of the symbol with its quiet zones.
     pub(crate) fn wide(&self) -> f64 {
         module_count(self.article) * self.module()
     }
 
-    /// What of it counts for the other labels.
+    /// Its measures that matter for the other labels.
     pub fn measure(&self, fonts: &Fonts) -> Measure {
         let price = self.article.text(Field::Price);
         Measure {
@@ -149,7 +150,7 @@ impl<'a> Item<'a> {
     }
 }
 
-/// Labels of a list that have a price: those whose symbol is at most as wide as this, or those with a wider one.
+/// The labels of a list that have a price and whose symbol is at most this wide, or wider.
 #[derive(Clone, Copy)]
 struct Priced<'a> {
     measures: &'a [Measure],
@@ -176,7 +177,7 @@ impl<'a> Priced<'a> {
         count
     }
 
-    /// The middle one of the widths of their prices, 0 if there is none.
+    /// The median of the widths of their prices, 0 if there is none.
     fn middle(&self) -> u32 {
         let all = self.count(u32::MAX);
         if all == 0 {
@@ -196,7 +197,7 @@ impl<'a> Priced<'a> {
         low
     }
 
-    /// The size in which all prices have this room, except those that are much longer than most; at most the largest.
+    /// The size at which all prices fit this room, except those that are much longer than most; at most the largest.
     fn size(&self, room: f64, largest: f64) -> f64 {
         let middle = self.middle();
         let mut common = largest;
@@ -212,7 +213,7 @@ impl<'a> Priced<'a> {
 }
 
 impl Common {
-    /// What labels of this look have in common if they have these measures.
+    /// What labels of this look with these measures have in common.
     fn of(measures: &[Measure], look: &Look, is_retail: bool) -> Common {
         let mut column = 0.0f64;
         for measure in measures {
@@ -258,7 +259,7 @@ impl Common {
 }
 
 impl Commons {
-    /// What labels of this look have in common, if they have these measures.
+    /// What labels of this look with these measures have in common.
     pub fn of(measures: &[Measure], look: &Look) -> Result<Commons, LabelFault> {
         look.check()?;
         Ok(Commons {

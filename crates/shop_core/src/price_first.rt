@@ -1,4 +1,4 @@
-//! The look whose price comes first. Lengths are dots.
+//! The look in which the price comes first. Lengths are dots.
 
 use crate::fault::LabelFault;
 use crate::form::bars_mm;
@@ -10,11 +10,11 @@ use crate::plan::between;
 use crate::small::{small_sizes, whole};
 use crate::symbol_parts::{GAP_MM, Rows};
 
-/// The least room beside the bars that further texts have in a label whose price is first.
+/// The least room beside the bars for further texts on a label whose price comes first.
 const LEAST_SIDE_MM: f64 = 8.0;
 
 impl<'a> Sheet<'a> {
-    /// Puts the price at the lower end of a band, as large as there is room, and the price before left of it.
+    /// Puts the price at the lower end of a band, as large as there is room, with the old price to the left of it.
     pub(crate) fn put_large_price(
         &self,
         parts: &mut Parts,
@@ -47,7 +47,7 @@ impl<'a> Sheet<'a> {
         Ok(())
     }
 
-    /// The sizes of small texts of which as many as can be have room in a column of this height, and how many have.
+    /// The sizes of small texts with which the most of them fit a column of this height, and how many fit.
     pub(crate) fn beside(&self, width: f64, high: f64, largest: f64) -> (usize, Sizes) {
         let least = largest.min(1.7 * self.dots());
         let mut size = largest;
@@ -85,8 +85,8 @@ impl<'a> Sheet<'a> {
         whole(Field::Name).put(parts, &block, column, self.plan.look.above)
     }
 
-    /// The name above, below it the price as large as there is room, and a strip of bars with the small texts beside
-    /// it; those that have no room there stand in a line below the name.
+    /// Puts the name above, below it the price as large as there is room, and a strip of bars with the small texts
+    /// beside it. Small texts without room there are in a line below the name.
     pub(crate) fn price_first(&self, parts: &mut Parts) -> Result<Rows, LabelFault> {
         let look = &self.plan.look;
         let dots = self.dots();
@@ -96,7 +96,7 @@ impl<'a> Sheet<'a> {
         let bars = self.bars(between(6.0, 0.24 * high, bars_mm(kind)) * dots);
         let strip = bars + self.under_height(&self.under()) + 2.0 * self.bearer();
         let bottom = self.bottom() - strip - GAP_MM * dots;
-        // A symbol that is wider than texts may be has its quiet zones in the white at both sides.
+        // A symbol that is wider than texts may be has its quiet zones in the white margins.
         let left = self
             .aside()
             .min((look.wide() - self.item.wide()) / 2.0)

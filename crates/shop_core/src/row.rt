@@ -1,4 +1,4 @@
-//! Rows through the bars of a drawn label, read back.
+//! Reads rows through the bars of a drawn label back.
 ghost use Rattle.std.specs.Prelude.{◌≡◌, ◌↔◌, ◌<◌, ◌≤◌, ◌+◌, ◌*◌, All, IsTrue, ℕ, false, length};
 ghost use Rattle.std.specs.List.{list_any};
 ghost use Rattle.scan_core.specs.Bits.{dot_at};
@@ -13,7 +13,7 @@ use element_core::Year;
 use scan_core::{DotSymbols, SymbolSearch, dots_determine, symbols_are_told};
 use sheet_core::{Label, darken};
 
-/// Makes the dots of a row of a label dark where a part of it is, and the others light.
+/// Makes the dots of a row dark if a part of the label is there, and the others light.
 fn put_row(parts: &[Part], width: u16, height: u16, y: u16, row: &mut [u8])
     requires room { width ≤ 8 * length row.old }
     requires within { All (LiesOn width height) parts.now }
@@ -27,7 +27,7 @@ fn put_row(parts: &[Part], width: u16, height: u16, y: u16, row: &mut [u8])
     }
 }
 
-/// Whether a search finds one symbol alone, and it is the label's.
+/// Whether a search finds exactly one symbol, and it is the label's.
 fn says_alone(symbols: DotSymbols, label: &Label, year: Year) -> bool
     requires all { symbols ≡ search_of symbols.runs year }
     requires row { IsRow symbols.runs }
@@ -47,7 +47,7 @@ fn says_alone(symbols: DotSymbols, label: &Label, year: Year) -> bool
     }
 }
 
-/// Whether row `y` of a label shows one symbol alone, and it is the label's. Parts count as dark all over.
+/// Whether row `y` of a label shows exactly one symbol, and it is the label's. Parts count as dark all over.
 pub(crate) fn row_answers(
     parts: &[Part],
     width: u16,
@@ -78,8 +78,8 @@ fn is_edge(parts: &[Part], y: u16) -> bool
     false
 }
 
-/// Whether each row from one on and before another shows one symbol, and it is the label's. Where no part begins or
-/// ends, a row is as the one above it.
+/// Whether each row from one up to another shows exactly one symbol, and it is the label's. Unless a part begins or
+/// ends there, a row is the same as the one above it.
 pub(crate) fn rows_answer(
     parts: &[Part],
     width: u16,

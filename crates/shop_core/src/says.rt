@@ -1,4 +1,4 @@
-//! What a symbol says.
+//! The content of a symbol.
 ghost use Rattle.std.specs.Prelude.{◌≡◌, ◌↔◌, IsTrue};
 ghost use Rattle.shop_core.specs.Drawings.{IsOf};
 
@@ -6,7 +6,7 @@ use element_core::{Elements, Year, one_list_or_fault};
 use scan_core::Window;
 use sheet_core::{Content, Label};
 
-/// Whether both are the same elements under the same year.
+/// Whether both are the same elements with the same year.
 fn are_same(one: &Elements, other: &Elements) -> bool
     ensures { IsTrue result ↔ (one.now ≡ other.now) }
 {

@@ -1,4 +1,4 @@
-//! Texts of a label, set in lines: whole fields, and the small ones.
+//! Texts of a label, typeset in lines: whole fields, and the small ones.
 
 use crate::fault::LabelFault;
 use crate::letters::{Block, Sizes, Span};
@@ -13,7 +13,7 @@ const MOST_LINES: usize = 8;
 /// The most small texts: the further lines, and four fields.
 const MOST_SMALL: usize = 12;
 
-/// The fields that stand in front of the further lines.
+/// The fields that come before the further lines.
 const SMALL_FIELDS: [Field; 4] = [
     Field::UnitPrice,
     Field::Deposit,
@@ -100,7 +100,7 @@ impl Small {
     }
 }
 
-/// The sizes of small texts: at most so large, and in two lines at least three fifths of it, if that is not below the
+/// The sizes of small texts: at most this large; in two lines at least three fifths of it, unless that is below the
 /// least.
 pub(crate) fn small_sizes(largest: f64, least: f64) -> Sizes {
     Sizes {

@@ -1,4 +1,4 @@
-//! The symbol of a label that is laid out: its bars, what people read under them, and its bearers. Lengths are dots.
+//! The symbol of a label that is laid out: its bars, the text under them, and its bearer bars. Lengths are dots.
 
 use crate::fault::LabelFault;
 use crate::form::{bars_mm, groups, is_long, module_range};
@@ -12,19 +12,19 @@ pub(crate) const GAP_MM: f64 = 0.9;
 
 const LEAST_BARS_MM: f64 = 5.0;
 
-/// Where a symbol stands: the first row through its bars, the one below the last, and where its left quiet zone
+/// Where a symbol is: the first row through its bars, the row below the last one, and where its left quiet zone
 /// begins.
 #[derive(Clone, Copy)]
 pub(crate) struct Rows {
     pub(crate) top: f64,
     pub(crate) high: f64,
     pub(crate) left: f64,
-    /// The height of bars that the standard asks for.
+    /// The height of bars in the standard.
     pub(crate) nominal: f64,
 }
 
 impl<'a> Sheet<'a> {
-    /// Puts the bars, each long one by five modules longer.
+    /// Puts the bars; the long ones are longer by five modules.
     pub(crate) fn put_bars(&self, parts: &mut Parts, rows: Rows) -> Result<(), LabelFault> {
         let module = self.item.module();
         let start = rows.left + f64::from(self.item.article.symbol.quiet_left()) * module;
@@ -47,7 +47,7 @@ impl<'a> Sheet<'a> {
         Ok(())
     }
 
-    /// Puts digits in groups, 25 / 3 modules high and a module below the bars (GS1 General Specifications, section
+    /// Puts digits in groups, 25 / 3 modules high and one module below the bars (GS1 General Specifications, section
     /// 5.2.5).
     pub(crate) fn put_groups(
         &self,
@@ -73,7 +73,7 @@ impl<'a> Sheet<'a> {
                 is_struck: false,
                 size: fine(own),
                 left: fine(left),
-                // Round digits go a little below their base line.
+                // Round digits reach a little below their baseline.
                 base: fine(bottom - 0.015 * own),
                 step: fine(wide),
             };
@@ -92,7 +92,7 @@ impl<'a> Sheet<'a> {
         Ok(())
     }
 
-    /// What people read under a symbol that has no groups of digits.
+    /// The text under a symbol without groups of digits.
     pub(crate) fn under(&self) -> Block<'a> {
         let setting = Setting {
             breaks: Breaks::Elements,
@@ -106,7 +106,7 @@ impl<'a> Sheet<'a> {
         setting.fitted(self.item.wide(), sizes)
     }
 
-    /// How high what people read is, with the white above it.
+    /// The height of the text under the symbol, with the white above it.
     pub(crate) fn under_height(&self, digits: &Block) -> f64 {
         if self.item.is_retail() {
             (1.0 + 25.0 / 3.0) * self.item.module()
@@ -115,7 +115,7 @@ impl<'a> Sheet<'a> {
         }
     }
 
-    /// The height of bars that the standard asks for.
+    /// The height of bars in the standard.
     pub(crate) fn nominal(&self) -> f64 {
         let kind = self.item.article.label.kind();
         let scale = if self.item.is_retail() {
@@ -126,8 +126,8 @@ impl<'a> Sheet<'a> {
         bars_mm(kind) * scale
     }
 
-    /// Where a symbol stands whose left quiet zone begins here: at the label's lower end, below a height, with bars
-    /// as high as wanted or as there is room for.
+    /// Where a symbol is whose left quiet zone begins here: at the lower end of the label, below a height, with bars
+    /// as high as requested or as there is room for.
     pub(crate) fn rows(
         &self,
         left: f64,
@@ -150,7 +150,7 @@ impl<'a> Sheet<'a> {
         })
     }
 
-    /// How high a bearer is.
+    /// The height of a bearer bar.
     pub(crate) fn bearer(&self) -> f64 {
         if self.item.article.has_bearers {
             2.0 * self.item.module()
@@ -159,8 +159,8 @@ impl<'a> Sheet<'a> {
         }
     }
 
-    /// Puts what people read under a symbol, and its bearers, at the label's lower end and below a height, and
-    /// answers where its bars stand.
+    /// Puts the text under a symbol, and its bearer bars, at the lower end of the label and below a height. Returns
+    /// where its bars are.
     pub(crate) fn put_symbol(
         &self,
         parts: &mut Parts,
@@ -197,7 +197,7 @@ impl<'a> Sheet<'a> {
         Ok(rows)
     }
 
-    /// The height of bars, if none was asked for.
+    /// The height of bars, if the caller requests none.
     pub(crate) fn bars(&self, usual: f64) -> f64 {
         match self.plan.look.bars_mm {
             Some(high) => high * self.dots(),

@@ -1,4 +1,4 @@
-//! The texts of a drawn label.
+//! Checks the texts of a drawn label.
 ghost use Rattle.std.specs.Prelude.{◌≡◌, ◌↔◌, ◌<◌, ◌||◌, IsTrue, length};
 ghost use Rattle.std.specs.List.{list_all, list_any};
 ghost use Rattle.shop_core.specs.Drawings.{TellsText, field_number, has_letter, is_cut_at, is_shown, keeps_price, keeps_run, shows_price, text_of};
@@ -6,7 +6,7 @@ ghost use Rattle.shop_core.specs.Drawings.{TellsText, field_number, has_letter, 
 use crate::article::Article;
 use crate::part::{Field, Ink, Part, ends_line, is_blank};
 
-/// Whether a part shows letters of an article, if it shows any.
+/// Whether a part, if it shows letters, shows letters of an article.
 fn keeps_run(article: &Article, part: &Part) -> bool
     ensures { result ≡ keeps_run article.now part.now }
 {
@@ -28,7 +28,7 @@ pub(crate) fn keep_runs(parts: &[Part], article: &Article) -> bool
     true
 }
 
-/// Whether a part has an ellipsis in front of a letter of the text of a field.
+/// Whether a part has an ellipsis before a letter of the text of a field.
 fn is_cut_at(parts: &[Part], field: u8, place: usize) -> bool
     ensures { result ≡ list_any (is_cut_at field place) parts.now }
 {
@@ -52,7 +52,7 @@ fn has_letter(parts: &[Part], field: u8, place: usize) -> bool
     false
 }
 
-/// Whether a letter of a text is on the label, if it is no blank.
+/// Whether a letter of a text is on the label, unless it is a blank.
 fn is_shown(parts: &[Part], field: u8, text: &[u32], place: usize) -> bool
     requires { place < length text.now }
     ensures { result ≡ is_shown parts.now field text.now place }
@@ -60,14 +60,14 @@ fn is_shown(parts: &[Part], field: u8, text: &[u32], place: usize) -> bool
     is_blank(text[place]) || has_letter(parts, field, place)
 }
 
-/// Whether an ellipsis stands in front of a letter, or its line went on before.
+/// Whether there is an ellipsis before a letter, or earlier in its line.
 fn is_told(parts: &[Part], field: u8, place: usize, goes_on: bool) -> bool
     ensures { result ≡ (goes_on || list_any (is_cut_at field place) parts.now) }
 {
     goes_on || is_cut_at(parts, field, place)
 }
 
-/// Whether each letter of a text is on the label, or in its line behind an ellipsis.
+/// Whether each letter of a text is on the label, or behind an ellipsis in its line.
 fn tells(parts: &[Part], field: u8, text: &[u32]) -> bool
     ensures { IsTrue result ↔ TellsText parts.now field text.now }
 {
@@ -82,14 +82,14 @@ fn tells(parts: &[Part], field: u8, text: &[u32]) -> bool
     true
 }
 
-/// The same of the text of a field of an article.
+/// The same for the text of a field of an article.
 fn tells_field(parts: &[Part], article: &Article, field: Field) -> bool
     ensures { IsTrue result ↔ TellsText parts.now (field_number field) (text_of article.now field) }
 {
     tells(parts, field.number(), article.text(field))
 }
 
-/// The same of all its texts.
+/// The same for all its texts.
 pub(crate) fn tell_all(parts: &[Part], article: &Article) -> bool
     ensures { IsTrue result ↔ ((field : Field) → TellsText parts.now (field_number field) (text_of article.now field)) }
 {
@@ -120,7 +120,7 @@ pub(crate) fn tell_all(parts: &[Part], article: &Article) -> bool
     tells_field(parts, article, Field::Digits)
 }
 
-/// Whether a part shows a text of this many letters as the price, whole.
+/// Whether a part shows all of a price of this many letters.
 fn show_price(parts: &[Part], letters: usize) -> bool
     ensures { result ≡ list_any (shows_price letters) parts.now }
 {
@@ -132,7 +132,7 @@ fn show_price(parts: &[Part], letters: usize) -> bool
     false
 }
 
-/// Whether the price stands on the label whole, if there is one.
+/// Whether the complete price is on the label, if there is one.
 pub(crate) fn keep_price(parts: &[Part], letters: usize) -> bool
     ensures { result ≡ keeps_price letters parts.now }
 {

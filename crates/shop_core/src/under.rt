@@ -1,4 +1,4 @@
-//! What people read under a symbol.
+//! The text under a symbol.
 ghost use Rattle.std.specs.Prelude.{◌≡◌, ◌+◌, ◌++◌, ◌≤◌, ℕ, List, length};
 ghost use Rattle.digits_core.specs.Upce.{IsFirstUpceOf};
 ghost use Rattle.sheet_core.specs.Labels.{Drawn, IsDrawn};
@@ -37,7 +37,7 @@ fn push_upce(digits: &mut ArrayVec<u32, MOST_DIGITS>, gtin: &Gtin)
     }
 }
 
-/// What people read under the symbol of a label that has one.
+/// The text under the symbol of a label, if it has one.
 pub(crate) fn under_bars(label: &Label) -> ArrayVec<u32, MOST_DIGITS>
     requires { (s : Drawn) × IsDrawn label.now s }
     ensures { IsReadUnder label.now result.items }

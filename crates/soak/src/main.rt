@@ -1,5 +1,5 @@
-//! Rows through a hub of 16 lanes and 16 workers whose queues and rings hold one item each. Standard input says how many
-//! rows each lane submits. Each delivery is compared: its lane, its number, its row, its carrier and its element strings.
+//! Sends rows through a hub of 16 lanes and 16 workers whose queues and rings hold one item each. Standard input has
+//! the number of rows per lane. It checks each delivery: its lane, number, row, carrier and element strings.
 #![tactic(auto)]
 
 ghost use Rattle.std.specs.Prelude.{◌≡◌, All, IfOk, map, vec_len};
@@ -46,15 +46,15 @@ struct Lane {
     seat: LaneSeat,
     /// How many rows it submits.
     due: u32,
-    /// A row that the queue of jobs had no place for.
+    /// A row for which the queue of jobs had no room.
     row: Option<Runs>,
     /// How many deliveries it has polled.
     polled: u32,
-    /// How many of these, or of its calls to submit, gave what they should not.
+    /// How many of these, or of its calls to submit, were wrong.
     wrong: u32,
 }
 
-/// The kind of the lane's row of this number, of three.
+/// The kind of the lane's row with this number, one of three.
 fn kind(lane: u8, number: u32) -> u32 {
     (u32::from(lane) + number % 3) % 3
 }
@@ -93,7 +93,7 @@ fn is_right(delivery: &Delivery, lane: u8, number: u32) -> bool {
         && delivery.row().widths() == widths(kind)
 }
 
-/// The row that the lane submits next; none if memory for it was refused.
+/// The row that the lane submits next. None if memory for it was refused.
 fn next_row(alloc: Global, lane: &mut Lane) -> Option<Runs>
     ensures { lane.new.seat ≡ lane.old.seat }
 {
@@ -103,7 +103,7 @@ fn next_row(alloc: Global, lane: &mut Lane) -> Option<Runs>
     }
 }
 
-/// Submits the lane's next row, if there is one and a place for it.
+/// Submits the lane's next row, if there is one and the queue has room.
 fn submit<R: Wait>(rt: &R, alloc: Global, hub: &Hub, lane: &mut Lane)
     requires { IsLaneOf hub.now lane.old.seat }
     ensures { IsLaneOf hub.now lane.new.seat × (lane_of lane.new.seat ≡ lane_of lane.old.seat) }
@@ -121,7 +121,7 @@ fn submit<R: Wait>(rt: &R, alloc: Global, hub: &Hub, lane: &mut Lane)
     }
 }
 
-/// Polls the lane's next delivery, if it is seen, and compares it.
+/// Polls the lane's next delivery, if it is there, and checks it.
 fn poll(hub: &Hub, lane: &mut Lane)
     requires { IsLaneOf hub.now lane.old.seat }
     ensures { IsLaneOf hub.now lane.new.seat × (lane_of lane.new.seat ≡ lane_of lane.old.seat) }
@@ -135,7 +135,7 @@ fn poll(hub: &Hub, lane: &mut Lane)
     lane.polled = lane.polled.saturating_add(1);
 }
 
-/// One lane submits, and one delivery is collected, handed to the lane and polled, each if it can be.
+/// One lane submits; one delivery is collected, handed to the lane and polled, if possible.
 fn take_turn<R: Wait>(
     rt: &R,
     alloc: Global,
@@ -153,7 +153,7 @@ fn take_turn<R: Wait>(
     poll(hub, lane);
 }
 
-/// Each lane has its turn.
+/// Each lane gets its turn.
 fn go_round<R: Wait>(
     rt: &R,
     alloc: Global,
@@ -171,7 +171,7 @@ fn go_round<R: Wait>(
     }
 }
 
-/// Goes round until each lane has polled all its rows, and tells the workers of each round.
+/// Repeats turns until each lane has polled all its rows, and signals the workers after each round.
 fn drive<R: Wait>(
     rt: &R,
     alloc: Global,
@@ -222,7 +222,7 @@ fn close_all(alloc: Global, lanes: Vec<Lane>) -> Result<Vec<ClosedLane>, AllocEr
     Ok(closed)
 }
 
-/// What was polled, how much of it was not as it should be, and whether settling found nothing.
+/// What was polled, how much of it was wrong, and whether settling found nothing.
 #[derive(Clone, Copy, Debug)]
 struct Counts {
     polled: u64,
@@ -241,7 +241,7 @@ fn count(lanes: &[Lane]) -> (u64, u64) {
     (polled, wrong)
 }
 
-/// Goes round beside the workers, until each lane has polled all its rows.
+/// Repeats turns beside the workers until each lane has polled all its rows.
 fn run_all<R: Threads + Wait + Sync>(
     rt: &R,
     alloc: Global,
@@ -304,7 +304,7 @@ fn soak<R: Threads + Wait + Sync>(
     }
 }
 
-/// How many rows each lane submits, by the first line of standard input: none if that is no number.
+/// How many rows each lane submits, from the first line of standard input. None if that is no number.
 fn read_due<R: Input>(rt: &R, alloc: Global) -> io::Result<Option<u32>> {
     let mut lines = BufReader::new(alloc, rt.reader())?.lines(alloc);
     let Some(line) = lines.next() else {

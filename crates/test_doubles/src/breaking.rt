@@ -3,7 +3,7 @@ ghost use Rattle.std.specs.Prelude.{◌≡◌, Some, false};
 
 use digits_core::{Failed, Source};
 
-/// Gives some bytes, one at a time, and then fails.
+/// Returns some bytes, one at a time, and then fails.
 #[derive(Drop)]
 pub struct Breaking<'a> {
     left: &'a [u8],

@@ -6,18 +6,18 @@ use lane_core::Ticket;
 use std::alloc::{AllocError, Global};
 use std::sync::atomic::{AtomicU64, Ordering};
 
-/// Counts how often each row of some lanes comes, and holds one of them until another has come.
+/// Counts how often each row of some lanes comes, and delays one of them until another has come.
 #[derive(Drop)]
 pub struct Holding {
     held: Ticket,
     until: Ticket,
-    /// After how many turns a wait is ended.
+    /// After how many turns a wait ends.
     turns: u64,
-    /// How often each row has come, lane by lane and by number.
+    /// How often each row has come, by lane and number.
     came: Vec<Vec<AtomicU64>>,
     /// How often any other row has come.
     others: AtomicU64,
-    /// How often a wait was ended by its limit.
+    /// How often a wait ended at its limit.
     limits_met: AtomicU64,
 }
 
@@ -31,8 +31,8 @@ fn counters(alloc: Global, rows: usize) -> Result<Vec<AtomicU64>, AllocError> {
 }
 
 impl Holding {
-    /// A gate that has seen no row of these lanes, each with this many rows. The row that is `held` goes on
-    /// once that of `until` has come.
+    /// A gate before any row of these lanes has come; each lane has this many rows. The row `held` passes once the
+    /// row `until` has come.
     pub fn new(
         alloc: Global,
         lanes: &[usize],
@@ -53,20 +53,20 @@ impl Holding {
         })
     }
 
-    /// The gate, whose wait ends after this many turns.
+    /// The same gate, whose waits end after this many turns.
     pub fn with_limit(self, turns: u64) -> Holding {
         let mut gate = self;
         gate.turns = turns;
         gate
     }
 
-    /// How often a row has come; none of a row that is not of the lanes.
+    /// How often a row has come. None if it is not a row of these lanes.
     fn count(&self, ticket: Ticket) -> Option<&AtomicU64> {
         let lane = self.came.get(usize::from(ticket.lane))?;
         lane.get(ticket.number as usize)
     }
 
-    /// Whether each row of the lanes has come once, and no other, however long a wait was.
+    /// Whether each row of the lanes has come once, and no other row, even if a wait reached its limit.
     pub fn counted_each_once(&self) -> bool {
         self.others.load(Ordering::SeqCst) == 0
             && self.came.iter().all(|lane| lane
@@ -74,7 +74,7 @@ impl Holding {
                 .all(|count| count.load(Ordering::SeqCst) == 1))
     }
 
-    /// The same, if each wait has ended before its limit.
+    /// The same, if each wait ended before its limit.
     pub fn saw_each_once(&self) -> bool {
         self.counted_each_once() && self.limits_met.load(Ordering::SeqCst) == 0
     }

@@ -1,4 +1,4 @@
-//! A gate that holds a lane's rows, and what lanes are delivered meanwhile.
+//! A gate that delays a lane's rows, and what other lanes get meanwhile.
 ghost use Rattle.std.specs.Prelude.{◌≡◌};
 ghost use Rattle.hub_core.specs.Hubs.{IsDelivererOf, IsLaneOf};
 ghost use Rattle.hub_core.specs.Lanes.{lane_of};
@@ -10,7 +10,7 @@ use std::sync::Wait;
 use std::sync::atomic::{AtomicU64, Ordering};
 use std::thread;
 
-/// Holds a lane's rows until it is opened, and counts how often that was not in time.
+/// Delays a lane's rows until somebody opens it, and counts how often that came too late.
 #[derive(Drop)]
 pub struct LaneGate {
     held: u8,
@@ -20,7 +20,7 @@ pub struct LaneGate {
 }
 
 impl LaneGate {
-    /// A gate that is not open to this lane.
+    /// A gate that is closed to this lane.
     pub fn new(held: u8) -> LaneGate {
         LaneGate {
             held,
@@ -30,7 +30,7 @@ impl LaneGate {
         }
     }
 
-    /// Waits for a row of the lane that is held. Whether one has come.
+    /// Waits for a row of the delayed lane. Returns whether one has come.
     fn holds_one(&self) -> bool {
         reaches(&self.came, 1)
     }
@@ -40,7 +40,7 @@ impl LaneGate {
         self.is_open.store(1, Ordering::SeqCst);
     }
 
-    /// How often a row waited as long as it may.
+    /// How often a row waited up to the limit.
     pub fn limits_met(&self) -> u64 {
         self.limits_met.load(Ordering::SeqCst)
     }
@@ -58,8 +58,8 @@ impl Gate for LaneGate {
     }
 }
 
-/// The first delivery that the lane polls, while this thread collects and hands to it; none where that
-/// takes too many turns.
+/// The first delivery that the lane polls while this thread collects and hands over. None if that takes too many
+/// turns.
 pub fn first_polled<R: Wait>(
     rt: &R,
     hub: &Hub,
@@ -81,8 +81,8 @@ pub fn first_polled<R: Wait>(
     None
 }
 
-/// Whether the lane polls nothing while its row is at the gate, once this thread has collected what was posted and
-/// handed it what is its next.
+/// Whether the lane polls nothing while its row is at the gate, after this thread has collected all posted deliveries
+/// and handed over the lane's next one.
 pub fn polls_nothing<R: Wait>(
     rt: &R,
     hub: &Hub,

@@ -1,5 +1,5 @@
-//! For tests: a reader that fails, a writer that takes little, a wire that keeps what it did, gates that hold rows, and a
-//! hub with all its seats at hand.
+//! For tests: a reader that fails, a writer that takes few bytes, a wire that records its calls, gates that delay
+//! rows, and a hub whose seats are all at hand.
 #![tactic(auto)]
 
 mod breaking;

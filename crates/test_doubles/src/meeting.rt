@@ -6,19 +6,19 @@ use lane_core::Ticket;
 use std::alloc::{AllocError, Global};
 use std::sync::atomic::{AtomicU64, Ordering};
 
-/// Holds the first row of each lane until those of all have come, and so until as many workers are there at once.
+/// Delays the first row of each lane until those of all lanes have come: so that many workers are there at once.
 #[derive(Drop)]
 pub struct Meeting {
     /// How many rows of the lanes have come.
     came: AtomicU64,
-    /// How many of each lane.
+    /// How many of each lane have come.
     lanes: Vec<AtomicU64>,
-    /// How often any other row has come, or a wait was ended by its limit.
+    /// How often another row came, or a wait ended at its limit.
     faults: AtomicU64,
 }
 
 impl Meeting {
-    /// A gate to which the first row of each of this many lanes is to come.
+    /// A gate for the first rows of this many lanes.
     pub fn of(alloc: Global, count: usize) -> Result<Meeting, AllocError> {
         let mut lanes = Vec::with_capacity(alloc, count)?;
         for _ in 0..count {

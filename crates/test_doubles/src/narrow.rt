@@ -1,11 +1,10 @@
-//! A sink that takes little.
+//! A sink that takes few bytes.
 ghost use Rattle.std.specs.Prelude.{◌≡◌, [], Some, false};
 
 use digits_core::{Failed, Sink};
 use std::alloc::Global;
 
-/// Takes a byte at a time, as many as it has room for, and then fails. It fails too where its memory
-/// is refused.
+/// Takes one byte at a time as long as it has room, and then fails. It also fails if memory is refused.
 #[derive(Drop)]
 pub struct Narrow {
     taken: Vec<u8>,
@@ -14,7 +13,7 @@ pub struct Narrow {
 }
 
 impl Narrow {
-    /// A sink with room for this many bytes, which has taken none and has not failed.
+    /// A sink with room for this many bytes. It has taken none and has not failed.
     pub fn new(alloc: Global, room: usize) -> Narrow
         ensures taken { ⟦<Narrow as Sink>⟧.taken result ≡ Some [] }
         ensures sound { ⟦<Narrow as Sink>⟧.failed result ≡ false }

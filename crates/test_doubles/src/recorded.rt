@@ -1,4 +1,4 @@
-//! A wire that keeps what it did.
+//! A wire that records its calls.
 ghost use Rattle.std.specs.Prelude.{◌≡◌, ◌<◌, ◌≤◌, ◌∷◌, ◌++◌, [], OnErr, OnOk, Ok, false};
 ghost use Rattle.test_doubles.specs.declared.recorded.Happened.{Happened};
 ghost use Rattle.test_doubles.specs.Recorded.{events_of};
@@ -7,17 +7,17 @@ use digits_core::Failed;
 use std::alloc::{AllocError, Global};
 use wire_core::Wire;
 
-/// A read that gave these bytes, or a write that took them.
+/// A read that returned these bytes, or a write that took them.
 #[derive(Debug, Drop, PartialEq, Eq)]
 pub enum Happened {
-    /// A read gave these bytes.
+    /// A read returned these bytes.
     Read(Vec<u8>),
     /// A write took these bytes.
     Wrote(Vec<u8>),
 }
 
-/// A wire in memory: it gives and takes a few bytes at a time, fails after this many calls, and keeps what it did.
-/// It fails too where its memory is refused, and then at each call.
+/// A wire in memory. It gives and takes a few bytes at a time, records its calls, and fails after a number of calls.
+/// It also fails if memory is refused, and then at each further call.
 #[derive(Drop)]
 pub struct Recorded<'a> {
     alloc: Global,
@@ -30,8 +30,8 @@ pub struct Recorded<'a> {
 }
 
 impl<'a> Recorded<'a> {
-    /// A wire that has done nothing. It gives these bytes, at most `most` at a read and at least one, takes as
-    /// many at a write, and fails after this many calls.
+    /// A wire that has done nothing. It gives these bytes, one to `most` at each read, takes as many at each write,
+    /// and fails after this many calls.
     pub fn new(alloc: Global, bytes: &'a [u8], most: usize, calls: usize) -> Recorded<'a>
         ensures fresh { ⟦<Recorded<'a> as Wire>⟧.Did result result [] }
         ensures readable { ⟦<Recorded<'a> as Wire>⟧.read_failed result ≡ false }
@@ -48,14 +48,14 @@ impl<'a> Recorded<'a> {
         }
     }
 
-    /// The reads and writes that it did, in their order.
+    /// Its reads and writes, in order.
     pub fn happened(&self) -> &[Happened]
         ensures { result.now ≡ self.now.happened.items }
     {
         self.happened.as_slice()
     }
 
-    /// How many of this many bytes go over at a call.
+    /// How many of this many bytes one call moves.
     fn count_of(&self, bytes: usize) -> usize
         ensures few { result ≤ bytes }
         ensures some { 0 < bytes → 0 < result }
@@ -63,7 +63,7 @@ impl<'a> Recorded<'a> {
         bytes.min(self.most.max(1))
     }
 
-    /// Keeps a call, where it is one of those that do not fail. After one that fails each fails.
+    /// Records a call, unless it is one that fails. After one that fails, all fail.
     fn keep(&mut self, call: Result<Happened, AllocError>) -> Result<(), Failed>
         ensures kept { OnOk result ((happened : Happened) × (call ≡ Ok happened) × (self.new.happened.items ≡ self.old.happened.items ++ happened ∷ [])) }
         ensures none { OnErr result (self.new.happened.items ≡ self.old.happened.items) }

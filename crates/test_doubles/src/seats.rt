@@ -16,12 +16,12 @@ use std::alloc::{AllocError, Global};
 use std::sync::Wait;
 use std::thread::Threads;
 
-/// Why a hub does not do what is asked of it.
+/// Why a hub does not do what a test wants.
 #[derive(Clone, Copy, Debug, PartialEq, Eq)]
 pub enum StationFault {
-    /// It has no such seat.
+    /// There is no such seat.
     NoSeat,
-    /// It is not of this shape, a thread could not be started, or memory was refused.
+    /// It has another shape, a thread could not be started, or memory was refused.
     Refused,
 }
 
@@ -42,7 +42,7 @@ pub struct OpenHub {
     ghost count: { length lanes.items ≡ lane_count deliverer },
 }
 
-/// Whether it is the lane's delivery of that number, read as the carrier's.
+/// Whether it is the lane's delivery with this number, and reads as this carrier.
 pub fn is_answer(found: Option<&Delivery>, lane: u8, number: u32, wanted: Carrier) -> bool {
     match found {
         Some(delivery) => {
@@ -74,7 +74,7 @@ fn close_all(alloc: Global, lanes: Vec<LaneSeat>) -> Result<Vec<ClosedLane>, Sta
 }
 
 impl OpenHub {
-    /// A station of this shape, for 2026.
+    /// A hub of this shape and its seats, for 2026.
     pub fn new<R: Wait>(rt: &R, alloc: Global, shape: Shape) -> Result<OpenHub, StationFault> {
         let year = Year::new(2026).ok_or(StationFault::Refused)?;
         match Hub::new(rt, alloc, shape, year) {
@@ -96,7 +96,7 @@ impl OpenHub {
         }
     }
 
-    /// What becomes of the row that this lane submits.
+    /// What happens to the row that this lane submits.
     pub fn offer<R: Wait>(
         &mut self,
         rt: &R,
@@ -131,12 +131,12 @@ impl OpenHub {
         Ok(self.hub.work(rt, &mut self.workers[worker], &OpenGate))
     }
 
-    /// What is collected.
+    /// The result of collecting.
     pub fn collect<R: Wait>(&mut self, rt: &R) -> Collected {
         self.hub.collect(rt, &mut self.deliverer)
     }
 
-    /// Whether the lane's next delivery waits, has this number and is read as the carrier's.
+    /// Whether the lane's next delivery waits, has this number and reads as this carrier.
     pub fn has_next(&self, lane: u8, number: u32, carrier: Carrier) -> Result<bool, StationFault> {
         if usize::from(lane) >= self.lanes.len() {
             return Err(StationFault::NoSeat);
@@ -149,7 +149,7 @@ impl OpenHub {
         Ok(self.lanes.get(lane).ok_or(StationFault::NoSeat)?.issued())
     }
 
-    /// What becomes of the lane's next delivery.
+    /// What happens to the lane's next delivery.
     pub fn hand(&mut self, lane: u8) -> Result<Handed, StationFault> {
         if usize::from(lane) >= self.lanes.len() {
             return Err(StationFault::NoSeat);
@@ -165,9 +165,9 @@ impl OpenHub {
         Ok(self.lanes[lane].poll())
     }
 
-    /// Runs the workers on threads of their own, and opens the gate once the free lane has polled a delivery and
-    /// the held one was tried: the station, what the free lane polled, and whether the other polled nothing while
-    /// its row was at the gate.
+    /// Runs the workers in threads of their own, and opens the gate after the free lane has polled a delivery and the
+    /// delayed lane has tried to. Returns the hub and its seats, what the free lane polled, and whether the other
+    /// polled nothing while its row was at the gate.
     pub fn poll_and_open<R: Threads + Wait + Sync>(
         self,
         rt: &R,
@@ -218,7 +218,7 @@ impl OpenHub {
         }
     }
 
-    /// The station with all its lanes closed.
+    /// The hub and its seats, with all its lanes closed.
     pub fn close(self, alloc: Global) -> Result<Closed, StationFault> {
         let OpenHub {
             hub,
@@ -247,7 +247,7 @@ pub struct Closed {
 }
 
 impl Closed {
-    /// Whether this lane has polled all.
+    /// Whether this lane has polled everything.
     pub fn is_done(&self, lane: usize) -> Result<bool, StationFault> {
         Ok(self.lanes.get(lane).ok_or(StationFault::NoSeat)?.is_done())
     }
@@ -260,14 +260,14 @@ impl Closed {
         Ok(self.lanes[lane].poll())
     }
 
-    /// The same with the seats of the lanes, and those of the workers, in the other order.
+    /// The same with the seats of the lanes, and those of the workers, in reverse order.
     pub fn turned(mut self) -> Closed {
         self.lanes.reverse();
         self.workers.reverse();
         self
     }
 
-    /// The lists that settling gives, or where memory was refused all as it was.
+    /// The lists of `settle`; or, if memory was refused, all parts unchanged.
     fn settle_once<R: Wait>(self, rt: &R, alloc: Global) -> Result<Vec<Vec<Delivery>>, Closed> {
         let Closed {
             hub,
@@ -293,7 +293,7 @@ impl Closed {
         }
     }
 
-    /// The lists that settling gives; where memory was refused, those that settling again gives.
+    /// The lists of `settle`; if memory was refused, those of a second try.
     pub fn settle<R: Wait>(
         self,
         rt: &R,

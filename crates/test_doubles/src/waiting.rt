@@ -3,10 +3,10 @@
 use std::sync::atomic::{AtomicU64, Ordering};
 use std::thread;
 
-/// How often a thread looks whether it may go on.
+/// How often a thread checks whether it may go on.
 pub(crate) const TURN_LIMIT: u64 = 50_000_000;
 
-/// Waits until a counter is that high. Whether it was, before the limit of turns.
+/// Waits until a counter is at least this high. Returns whether it was, before the limit of turns.
 pub(crate) fn reaches(counter: &AtomicU64, wanted: u64) -> bool {
     reaches_within(counter, wanted, TURN_LIMIT)
 }

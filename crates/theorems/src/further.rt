@@ -1,4 +1,5 @@
-//! Theorems more: a check digit, the profile, scanner texts, a drawn label without its sheet, a shop's label, and the call that the program makes.
+//! Further theorems: about a check digit, the profile, texts of scanners, a drawn label without its sheet, a shop's
+//! label, and the call that the program makes.
 ghost use Rattle.std.specs.Prelude.{◌≡◌, ◌↔◌, ◌<◌, ◌≤◌, ◌-◌, ◌*◌, ◌++◌, ◌∷◌, ℕ, [], IfOk, List, Option, codes, length, map};
 ghost use Rattle.theorems.specs.Words.{AllZip, AreAnswersOf, AreAsciiDigits, Cells, Entry, Head, IsAnswer, IsChecked, IsDrawingOf, IsElements, IsMessage, IsUpceOf, Label, MessageSays, Outcome, Reads, Said, ShowsDrawn, Terms, digits_of, every_ai, gtin_entry, heard, label_answer, label_text, profile, served};
 

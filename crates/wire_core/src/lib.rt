@@ -1,5 +1,5 @@
-//! What goes over a wire: reads and writes in one order, and the lines of an input, however it is cut into pieces.
-//! `tests/using/items.txt` lists what is exported here, and `tests/using/run` fails if the two differ.
+//! Reads and writes in one order, and the lines of an input, however it arrives in pieces. `tests/using/items.txt`
+//! lists the public items, and `tests/using/run` fails if the two differ.
 #![tactic(auto)]
 
 mod laws;

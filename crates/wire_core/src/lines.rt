@@ -1,4 +1,4 @@
-//! The lines of an input that comes in pieces.
+//! The lines of an input that arrives in pieces.
 ghost use Rattle.std.specs.Prelude.{◌≡◌, ◌≤◌, ◌||◌, ◌<◌, ◌+◌, nat_lt, drop, if◌then◌else◌, vec_capacity, ◌∷◌, [], ℕ, List, None, Some, true, IfNone, IfOk, IfSome, OnErr, OnOk, length};
 ghost use Rattle.wire_core.specs.Events.{Ends};
 ghost use Rattle.wire_core.specs.Events.Event.{Read};
@@ -10,25 +10,25 @@ use memchr::memchr;
 use std::alloc::{AllocError, Global};
 use std::marker::Model;
 
-/// As many bytes as a line has at most, without the line feed and a carriage return before it: `most_line` in specs/.
-/// No symbol has so many widths.
+/// The most bytes of a line, without the line feed and a carriage return before it: `most_line` in specs/. The widths
+/// of a symbol are always shorter.
 pub const MOST_LINE: usize = 65_536;
 
-/// The most bytes of one read, a choice for speed: neither `MOST_LINE` nor the `CHUNK` of another crate must be the
-/// same. The invariant of `Lines` has this number and the next too.
+/// The most bytes of one read, a choice for speed: it need not be `MOST_LINE` or the `CHUNK` of another crate. The
+/// invariant of `Lines` has this number and the next too.
 const CHUNK: usize = 65_536;
 
-/// What is held at most: a line with its carriage return, and what one more read gives.
+/// The most bytes that are held: a line with its carriage return, and the bytes of one more read.
 const ROOM: usize = MOST_LINE + 1 + CHUNK;
 
-/// The bytes of an input that came and were not taken yet. Of a line that is too long the front is given up, so
-/// that what is held has a limit.
+/// The bytes of an input that have come but were not taken yet. If a line is too long, its beginning is dropped, so
+/// that the held bytes have a limit.
 #[derive(Drop)]
 pub struct Lines {
-    /// What is held, from `start` on.
+    /// The held bytes, from `start` on.
     bytes: Vec<u8>,
     start: usize,
-    /// Where a piece is read to first.
+    /// A buffer for reads.
     chunk: Vec<u8>,
     is_cut: bool,
     has_ended: bool,
@@ -58,8 +58,8 @@ fn first_line(bytes: &[u8], are_last: bool) -> Option<&[u8]>
     }
 }
 
-/// Keeps the bytes from `start` on, or none if they are too many for a line or its front was given up before;
-/// and says whether it was given up. `is_too_long` and `with_room` in specs/ say so of what is held.
+/// Keeps the bytes from `start` on. It drops all of them if they are too many for a line, or if the line's beginning
+/// was dropped before. Returns whether it was dropped. `is_too_long` and `with_room` in specs/ say the same.
 fn keep_rest(bytes: &mut Vec<u8>, start: usize, is_cut: bool) -> bool
     requires { start ≤ length bytes.old.items }
     ensures cut { result ≡ (is_cut || nat_lt (most_line + 1) (length (drop start bytes.old.items))) }
@@ -71,7 +71,7 @@ fn keep_rest(bytes: &mut Vec<u8>, start: usize, is_cut: bool) -> bool
         bytes.clear();
         return true;
     }
-    // As in `HeldInput` of command_runs: a drain would move the bytes one by one.
+    // As in `HeldInput` of command_runs: `drain` would move the bytes one by one.
     let len = bytes.len();
     bytes.copy_within(start..len, 0);
     bytes.truncate(len - start);
@@ -79,7 +79,7 @@ fn keep_rest(bytes: &mut Vec<u8>, start: usize, is_cut: bool) -> bool
 }
 
 impl Lines {
-    /// Nothing has come. What is held is given room for once.
+    /// Before any byte has come. It takes the memory for all held bytes.
     pub fn new(alloc: Global) -> Result<Lines, AllocError>
         ensures { IfOk result (λ lines. lines ≡ nothing_held) }
     {
@@ -92,8 +92,8 @@ impl Lines {
         })
     }
 
-    /// The next line without its line feed, and if its front was given up what is left of it; none if more
-    /// has to come first, and none at the end of the input.
+    /// The next line without its line feed; if its beginning was dropped, the rest of it. None if more bytes must
+    /// come first, and at the end of the input.
     pub fn line(&self) -> Option<&[u8]>
         ensures some { IfSome result (λ line. held_line self.now ≡ Some line.now) }
         ensures none { IfNone result (held_line self.now ≡ None) }
@@ -103,7 +103,7 @@ impl Lines {
         first_line(rest, are_last)
     }
 
-    /// Whether the line's front was given up, as it was too long.
+    /// Whether the beginning of the line was dropped because it is too long.
     pub fn is_cut(&self) -> bool
         ensures { result ≡ self.now.is_cut }
     {
@@ -117,7 +117,7 @@ impl Lines {
         self.has_ended
     }
 
-    /// Takes the line, which has this many bytes, with its line feed.
+    /// Takes the line, which has this many bytes, and its line feed.
     pub fn take_line(&mut self, count: usize)
         requires { (line : List ℕ) × (held_line self.old ≡ Some line) × (length line ≡ count) }
         ensures { self.new ≡ without_line self.old }
@@ -126,7 +126,7 @@ impl Lines {
         self.is_cut = false;
     }
 
-    /// Reads once more. It is for an input that has not ended and of which no line is held: of another the law
+    /// Reads once more. Call it only if the input has not ended and no line is held: otherwise the law
     /// `lines_are_pieces` says nothing.
     pub fn read<W: Wire>(&mut self, wire: &mut W) -> Result<(), Failed>
         ensures ok { (bytes : List ℕ) × OnOk result (self.new ≡ arrived self.old bytes) × Ends W.Did W.read_failed W.write_failed wire.old (λ _. Read bytes ∷ []) result wire.new }
@@ -137,7 +137,7 @@ impl Lines {
         self.start = 0;
         let count = wire.read(self.chunk.as_mut_slice())?;
         let came = &self.chunk.as_slice()[..count];
-        // It does not fail: there is `ROOM`.
+        // This does not fail: there is `ROOM`.
         let _ = self.bytes.extend_from_slice(came);
         self.has_ended = count == 0;
         Ok(())

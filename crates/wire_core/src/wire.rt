@@ -1,13 +1,13 @@
-//! The trait of what is read and written in one order, and how all of several bytes are written.
+//! The trait for reads and writes in one order, and a function that writes all bytes.
 ghost use Rattle.std.specs.Prelude.{◌≡◌, ◌<◌, ◌≤◌, ◌∷◌, ◌++◌, [], ℕ, List, Bool, length, take, IfOk, OnOk, OnErr};
 ghost use Rattle.wire_core.specs.Events.{Ends, Event, TellsFaults, Writes};
 ghost use Rattle.wire_core.specs.Events.Event.{Read, Wrote};
 
 use digits_core::Failed;
 
-/// A reader and a writer whose calls stand in one order.
+/// A reader and a writer whose calls are in one order.
 pub trait Wire {
-    // From the first state it came to the second by these reads and writes, in their order.
+    // These reads and writes, in their order, led from the first state to the second.
     ghost Did: { Self → Self → List Event → Type 0 };
     // Whether a read has failed.
     ghost read_failed: { Self → Bool };
@@ -16,14 +16,14 @@ pub trait Wire {
     // Nothing more comes.
     ghost at_end: { Self → Type 0 };
 
-    /// Reads into the front of `buf` and says how many bytes, as `digits_core::Source::read` does. But a call
+    /// Reads into the front of `buf` and returns how many bytes, as `digits_core::Source::read` does. But a call
     /// after a failure may succeed.
     fn read(&mut self, buf: &mut [u8]) -> Result<usize, Failed>
         ensures few { IfOk result (λ n. n ≤ length buf.new) }
         ensures ends { Ends Did read_failed write_failed self.old (λ n. Read (take n buf.new) ∷ []) result self.new }
         ensures end { IfOk result (λ n. n ≡ 0 → 0 < length buf.new → at_end self.new) };
 
-    /// Writes a front of the bytes and says how many, as `digits_core::Sink::write` does. But a call after a
+    /// Writes a prefix of the bytes and returns its length, as `digits_core::Sink::write` does. But a call after a
     /// failure may succeed.
     fn write(&mut self, bytes: &[u8]) -> Result<usize, Failed>
         ensures few { IfOk result (λ n. n ≤ length bytes.now) }

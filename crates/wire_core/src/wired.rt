@@ -1,12 +1,12 @@
-//! A wire of any reader and any writer.
+//! A wire made of any reader and any writer.
 ghost use Rattle.std.specs.Prelude.{◌≡◌};
 ghost use Rattle.wire_core.specs.Events.{AllWasRead};
 
 use crate::wire::Wire;
 use digits_core::{Failed, Sink, Source};
 
-/// A source and a sink as one wire. What the source gave and what the sink took is known as far as each of them
-/// reports it; which came first is not known.
+/// A source and a sink as one wire. The bytes that the source gave and the sink took are known as far as these report
+/// them. Which came first is not known.
 #[derive(Drop)]
 pub struct Wired<S: Source, W: Sink> {
     source: S,
@@ -16,7 +16,7 @@ pub struct Wired<S: Source, W: Sink> {
 impl<S: Source, W: Sink> Wired<S, W> {
     ghost use Rattle.std.specs.Prelude.{[]};
 
-    /// A wire that reads of the source and writes to the sink.
+    /// A wire that reads from the source and writes to the sink.
     pub fn new(source: S, sink: W) -> Wired<S, W>
         ensures source { result.source ≡ source }
         ensures sink { result.sink ≡ sink }
@@ -26,8 +26,7 @@ impl<S: Source, W: Sink> Wired<S, W> {
     }
 }
 
-/// A law: if nothing more comes over a wire of a source, its reads have given all that the source had, if that is
-/// known.
+/// A law: if a wire of a source has ended, its reads have returned all bytes of the source, if these are known.
 pub fn all_was_read<S: Source, W: Sink>()
     ensures { AllWasRead ⟦<Wired<S, W> as Wire>⟧.Did ⟦<Wired<S, W> as Wire>⟧.at_end (λ wire. S.left wire.source) }
 {}

@@ -100,7 +100,7 @@ class _NewToken(argparse.Action):
 
 
 def run(words: argparse.Namespace) -> int:
-    """Serves until it is told to stop, or the hub ends."""
+    """Serves until a signal stops it, or the hub ends."""
     if words.port is None and not words.unix:
         raise WrongWords("name a socket by --unix or --port")
     words.tls = _tls_of(words)

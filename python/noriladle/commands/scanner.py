@@ -35,7 +35,7 @@ CUT = 1_024
 ENDLESS = 2.0
 """A text that has not ended this many seconds after its last byte has no end."""
 WAKES = 0.5
-"""At least once in so many seconds the program looks whether the device has something to read."""
+"""The program checks the device for input at least once in this many seconds."""
 PATIENCE = 3.0
 """How many seconds at most remain, after the scanner is unplugged, to report to the till what was lost."""
 
@@ -68,7 +68,7 @@ def _baud(word: str) -> int:
 
 
 def run(words: argparse.Namespace) -> int:
-    """Reads the scanner until it is unplugged, or the command is told to stop."""
+    """Reads the scanner until somebody unplugs it, or a signal stops the command."""
     lane = words.lane or _lane_of(words.device, words.lanes)
     if not is_name(lane):
         raise WrongWords(f"{lane!r} is no name of a lane: up to 64 letters, digits and . _ : -")

@@ -24,7 +24,7 @@ _MOST_PARTS, _ROW = 400, 8192
 _BAR, _LETTERS, _LINES, _CUT, _BOLD, _STRUCK = 0, 2, 7, 1, 2, 4
 _NO_SYMBOL, _TOO_WIDE, _NO_MODULE = 26, 27, 52
 _SAID = {53: "noBars", 54: "noPlace", 55: "noHeight", 56: "manyFurther"}
-"""The errors of labels by their numbers in gs1.h, and what is said of them in shop/."""
+"""The errors of labels by their numbers in gs1.h, and their texts in shop/."""
 _PART, _INK, _DRAWN = struct.Struct("<7H2B4L"), 14, struct.Struct("<2L6H")
 """``struct gs1_part``, where its ink stands, and ``struct gs1_drawing``."""
 _U16, _U32, _SIZE, _DOUBLE = ctypes.c_uint16, ctypes.c_uint32, ctypes.c_size_t, ctypes.c_double

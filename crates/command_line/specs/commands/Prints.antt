@@ -10,7 +10,7 @@ use Rattle.command_line.specs.declared.commands.print.options.PrintOptions.{Prin
 abbrev pub print_app : Choices → App
 print_app choices = with_rules (new_app (codes "print")) (grid_rules ++ terms_rules choices ++ flag_rule (codes "text") ∷ [])
 
--- lines are asked for by a flag, else it is images
+-- a flag asks for lines; otherwise it is images
 abbrev pub asks_lines : Output → Bool
 asks_lines output.Images = false
 asks_lines output.Lines = true

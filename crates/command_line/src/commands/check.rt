@@ -1,4 +1,4 @@
-//! The words of the command `check`.
+//! The arguments of the command `check`.
 ghost use Rattle.std.specs.Prelude.{◌≡◌, IfOk, false};
 ghost use Rattle.clap.specs.Words.{app_of};
 ghost use Rattle.clap.specs.declared.builder.command.Command.TheViews.{out-Command};
@@ -28,7 +28,7 @@ Example:
   $ echo gtin,9501101530003 | gs1_hub check --year 2026
   gtin 09501101530003";
 
-/// The words of the command `check`, as `clap` reads them; `--ais` takes these choices.
+/// The command `check` for `clap`; `--ais` takes these choices.
 pub fn check_words<'a>(alloc: Global, choices: &'a [&'a str]) -> Result<Command<'a>, AllocError>
     ensures app { IfOk result (λ c. app_of c ≡ check_app choices.entry) }
     ensures own { IfOk result (λ c. (out-Command c).has_globals ≡ false) }

@@ -1,4 +1,4 @@
-//! The words of the command `lanes`, and the options that they give.
+//! The arguments of the command `lanes`, and its options.
 ghost use Rattle.std.specs.Prelude.{◌≡◌, IfNone, IfOk, IfSome, false};
 ghost use Rattle.clap.specs.Words.{app_of, found_of, rows_of};
 ghost use Rattle.clap.specs.declared.builder.command.Command.TheViews.{out-Command};
@@ -39,7 +39,7 @@ pub fn options_named(matches: &ArgMatches<'_>) -> Option<LaneOptions>
     )
 }
 
-/// The words of the command `lanes`, as `clap` reads them; `--ais` takes these choices. `live_words` begins with the same.
+/// The command `lanes` for `clap`; `--ais` takes these choices. `live_words` begins in the same way.
 pub fn lanes_words<'a>(alloc: Global, choices: &'a [&'a str]) -> Result<Command<'a>, AllocError>
     ensures app { IfOk result (λ c. app_of c ≡ lanes_app choices.entry) }
     ensures own { IfOk result (λ c. (out-Command c).has_globals ≡ false) }

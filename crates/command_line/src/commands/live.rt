@@ -1,4 +1,4 @@
-//! The words of the command `live`, and the options that they give.
+//! The arguments of the command `live`, and its options.
 ghost use Rattle.std.specs.Prelude.{◌≡◌, IfNone, IfOk, IfSome, false};
 ghost use Rattle.clap.specs.Words.{app_of, found_of, rows_of};
 ghost use Rattle.clap.specs.declared.builder.command.Command.TheViews.{out-Command};
@@ -47,8 +47,7 @@ pub fn options_named(matches: &ArgMatches<'_>) -> Option<LiveOptions>
     Some(LiveOptions::new(rows, flag_named(matches, "elements")?))
 }
 
-/// The words of the command `live`, as `clap` reads them; `--ais` takes these choices. They begin with those of
-/// `lanes_words`.
+/// The command `live` for `clap`; `--ais` takes these choices. Its arguments begin with those of `lanes_words`.
 pub fn live_words<'a>(alloc: Global, choices: &'a [&'a str]) -> Result<Command<'a>, AllocError>
     ensures app { IfOk result (λ c. app_of c ≡ live_app choices.entry) }
     ensures own { IfOk result (λ c. (out-Command c).has_globals ≡ false) }

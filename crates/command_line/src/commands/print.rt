@@ -1,4 +1,4 @@
-//! The words of the command `print`, and the options that they give.
+//! The arguments of the command `print`, and its options.
 ghost use Rattle.std.specs.Prelude.{◌≡◌, IfNone, IfOk, IfSome, false};
 ghost use Rattle.clap.specs.Words.{app_of, found_of, rows_of};
 ghost use Rattle.clap.specs.declared.builder.command.Command.TheViews.{out-Command};
@@ -40,8 +40,8 @@ Example:
 /// The flag `--text`.
 const TEXT: &str = "Print a line for each label instead of images";
 
-/// The words of the command `print`, as `clap` reads them; `--ais` takes these choices. Those of the grid come first,
-/// as in `scan_words`.
+/// The command `print` for `clap`; `--ais` takes these choices. The arguments of the grid come first, as in
+/// `scan_words`.
 pub fn print_words<'a>(alloc: Global, choices: &'a [&'a str]) -> Result<Command<'a>, AllocError>
     ensures app { IfOk result (λ c. app_of c ≡ print_app choices.entry) }
     ensures own { IfOk result (λ c. (out-Command c).has_globals ≡ false) }

@@ -1,4 +1,4 @@
-//! The words of the command `scan`, and the options that they give.
+//! The arguments of the command `scan`, and its options.
 ghost use Rattle.std.specs.Prelude.{◌≡◌, IfNone, IfOk, IfSome, false};
 ghost use Rattle.clap.specs.Words.{app_of, found_of, rows_of};
 ghost use Rattle.clap.specs.declared.builder.command.Command.TheViews.{out-Command};
@@ -30,8 +30,8 @@ Example, with the label.pbm that the example of `gs1_hub print --help` makes:
   $ gs1_hub scan --module 2 --width 240 --height 120 --columns 1 --rows 1 --workers 1 --year 2026 < label.pbm
   0 0 ]E0 (01)09501101530003";
 
-/// The words of the command `scan`, as `clap` reads them; `--ais` takes these choices. Those of the grid come first,
-/// as in `print_words`.
+/// The command `scan` for `clap`; `--ais` takes these choices. The arguments of the grid come first, as in
+/// `print_words`.
 pub fn scan_words<'a>(alloc: Global, choices: &'a [&'a str]) -> Result<Command<'a>, AllocError>
     ensures app { IfOk result (λ c. app_of c ≡ scan_app choices.entry) }
     ensures own { IfOk result (λ c. (out-Command c).has_globals ≡ false) }

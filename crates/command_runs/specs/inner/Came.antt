@@ -26,7 +26,7 @@ use Rattle.command_runs.specs.declared.live.pending.PendingReply.TheVariants as 
 use Rattle.command_runs.specs.declared.live.terms.LiveTerms.{LiveTerms}
 use Rattle.command_runs.specs.declared.live.waiting.Waiting.{Waiting}
 
--- what has led to a live input: what is asked for of it, what its wire did, what it gave and what it was brought
+-- the history of a live input: its terms, what its wire did, the rows that it gave and the deliveries that it got
 pub record Past : Type 0 where
   pub terms : LiveTerms
   pub events : List Event
@@ -46,7 +46,7 @@ turn_of s = record { lanes = s.lanes.items; replies = s.replies.items; lines = s
 
 -- ---- the lanes
 
--- of a lane these rows were given and these deliveries brought, of which the last wait to be written, with room for all that may come
+-- a lane gave these rows and got these deliveries; the last of these wait to be written, with room for all that may come
 pub record IsWaiting (rows : List (List ℕ)) (brought : List Plain) (w : Waiting) : Type 0 where
   pub written : List Plain
   pub whole : brought ≡ written ++ w.deliveries.items
@@ -148,7 +148,7 @@ pub record HasLived {W : Type 0} (did : W → W → List Event → Type 0) (read
   pub begun : s.stopped ≢ Some NoThread
   pub ended : s.lines.has_ended ≡ true → at_end s.wire
 
--- a live input of this wire, of which nothing has been read and which has not stopped
+-- a live input of this wire that has read nothing and has not stopped
 abbrev pub HasBegun : {W : Type 0} → History (Live W) → LiveTerms → W → Live W → Type 0
 HasBegun came terms wire s = (s.wire ≡ wire) × (s.terms ≡ terms) × (s.stopped ≡ None) × came s s (replicate terms.lanes []) (replicate terms.lanes [])
 

@@ -112,7 +112,7 @@ ReadRecord left failed lanes lent r items (Err (one.Record f)) = (rows : List Fi
 ReadRecord left failed lanes lent r items (Err one.NoMemory) = (rows : List Fields) × (taken : List ℕ) × KeepsRows lanes r rows items
     × HasTaken left failed lent r.input taken
 
--- why the input is refused if this is told of a record; the lanes and the count of records stay
+-- why the input is refused if a record has this error; the lanes and the count of records stay
 pub record WhyRefused {S : Type 0} (left : S → Option (List ℕ)) (failed : S → Bool) (old : RowReader S) (refusal : RecordRefusal) (new : RowReader S)
     (fault : RecordsFault) : Type 0 where
   pub of_lanes : new.lanes ≡ old.lanes
@@ -171,7 +171,7 @@ GoesToCsv left failed = LeadsTo left failed (λ taken held rows. HasCut taken he
 abbrev pub GoesOnFrom : {S : Type 0} → (S → Option (List ℕ)) → (S → Bool) → RowReader S → RowReader S → Type 0
 GoesOnFrom left failed old new = ReadsOn left failed old new × (rank new.course + new.input.room < 1 + old.input.room)
 
--- what becomes of a reader of which rows are passed
+-- what a reader is after rows were skipped
 abbrev pub PassesRows : {S : Type 0} → (S → Option (List ℕ)) → (S → Bool) → RowReader S → RowReader S → Type 0
 PassesRows {S} left failed old new = (lanes : ℕ) (lent : MutBor S) (items : List LaneRow) → GaveRows left failed lanes lent old items
     → (all : List LaneRow) × GaveRows left failed lanes lent new all

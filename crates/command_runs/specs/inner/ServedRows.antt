@@ -1,4 +1,4 @@
--- Rows of records that are read as workers answer them (`answers/rows.rt`): what was given and brought, and what is told at the end.
+-- Rows of records that are read while workers answer them (`answers/rows.rt`): rows given and answered, and the result at the end.
 use Rattle.std.specs.Prelude.{◌≡◌, ℕ, Bool, false, true, List, [], IfErr, IfOk, Option, Result, Ok, Err, String, map, replicate, string_bytes}
 use Rattle.std.specs.Borrow.{MutBor}
 use Rattle.std.specs.Global.{Vec}
@@ -45,13 +45,13 @@ AreAnswered left failed lanes year lent r (Ok texts) = (items : List LaneRow) ×
     × IsReport year (feeds_of lanes items) (concat (map string_bytes texts.items))
 AreAnswered left failed lanes year lent r (Err fault) = (items : List LaneRow) × GaveRows left failed lanes lent r items
 
--- what is told of a source of which not all rows are answered
+-- the result for a source whose rows are not all answered
 pub record IsToldOf {S : Type 0} (left : S → Option (List ℕ)) (failed : S → Bool) (lanes : ℕ) (lent : MutBor S) (r : RowReader S) (told : Result (String Global) RowsFault) : Type 0 where
   pub same : r.input.source.ghost_name ≡ lent.ghost_name
   pub nothing : IfOk told (λ lines. (string_bytes lines ≡ []) × Takes (lanes_meaning lanes) (λ items. items ≡ []) (left lent.now) (left r.input.source.now))
   pub why : IfErr told (RefusesRows lanes (left lent.now) (left r.input.source.now))
   pub fault : TellsFault failed lent.now r.input.source.now told (rows.Records refused.ReadFault)
 
--- what is told of it, whatever the source and whatever rows were given
+-- the result for it, whatever the source and whatever rows were given
 abbrev pub TellsOfRows : {S : Type 0} → (S → Option (List ℕ)) → (S → Bool) → RowReader S → Result (String Global) RowsFault → Type 0
 TellsOfRows {S} left failed r told = (lanes : ℕ) (lent : MutBor S) (items : List LaneRow) → GaveRows left failed lanes lent r items → IsToldOf left failed lanes lent r told

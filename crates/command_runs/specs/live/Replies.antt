@@ -52,6 +52,6 @@ abbrev pub replies_from : Numbers → List Meant → List Reply
 replies_from next [] = []
 replies_from next (m ∷ records) = reply_to next m ∷ replies_from (numbers_after next (reply_to next m)) records
 
--- what is written for lines, of which some mean no record
+-- what is written for lines; some of them mean no record
 abbrev pub replies_to : (List ℕ → Option Meant) → List (List ℕ) → List Reply
 replies_to meant lines = replies_from (λ lane. 0) (filter_map meant lines)

@@ -1,5 +1,5 @@
-//! An input that comes in pieces: the bytes that came are held until a reader gives them up. `Lines` of wire_core holds
-//! those of a wire, and gives up the front of a line that is too long.
+//! A buffer before an input: it holds the bytes that have come until the reader releases them. `Lines` of wire_core
+//! does the same for a wire, and drops the beginning of a line that is too long.
 ghost use Rattle.std.specs.Prelude.{◌≡◌, ◌+◌, ◌≤◌, length, true};
 
 use csv_records::INPUT_LIMIT;
@@ -7,18 +7,18 @@ use digits_core::{InputFault, Source};
 use std::alloc::Global;
 use std::mem;
 
-/// How many bytes are asked for at a time, a choice for speed: the `CHUNK` of another crate need not be the same.
-/// Contracts see it as 65536. docs/ARCHITECTURE.md tells it, and `LONG` of row_reader.rt.
+/// How many bytes it reads at a time, a choice for speed: the `CHUNK` of another crate may differ. Contracts see it
+/// as 65536. docs/ARCHITECTURE.md and `LONG` of row_reader.rt give it too.
 const CHUNK: usize = 65_536;
 
-/// An input that comes in pieces, and what is held of it.
+/// An input, and the bytes of it that are held.
 #[derive(Drop)]
 pub struct HeldInput<'a, S> {
-    /// What gives the bytes.
+    /// The source of the bytes.
     pub source: &'a mut S,
     /// How many bytes may still come before the input is too long.
     room: usize,
-    /// What is held, from `start` to `end`; a piece is read behind it.
+    /// The bytes that are held are those from `start` to `end`. The next piece goes behind them.
     bytes: Vec<u8>,
     start: usize,
     end: usize,
@@ -28,7 +28,7 @@ pub struct HeldInput<'a, S> {
 impl<'a, S: Source> HeldInput<'a, S> {
     ghost use Rattle.command_runs.specs.inner.HeldInputs.{GivesUp, HoldsMore, HoldsNothing, MakesRoom, PassesRest, ReadsRest, held_of};
 
-    /// The input that this source gives, of which nothing is held.
+    /// The input of this source. It holds nothing yet.
     pub fn new(alloc: Global, source: &'a mut S) -> HeldInput<'a, S>
         ensures { HoldsNothing S.left S.failed source.entry result }
     {
@@ -41,14 +41,14 @@ impl<'a, S: Source> HeldInput<'a, S> {
         }
     }
 
-    /// What is held.
+    /// The bytes that are held.
     pub fn held(&self) -> &[u8]
         ensures { result.now ≡ held_of self.now }
     {
         &self.bytes.as_slice()[self.start..self.end]
     }
 
-    /// Gives up this many bytes that are held, from the first on.
+    /// Releases the first bytes that are held, this many.
     pub fn give_up(&mut self, count: usize)
         requires { count ≤ length (held_of self.old) }
         ensures { GivesUp count self.old self.new }
@@ -56,12 +56,12 @@ impl<'a, S: Source> HeldInput<'a, S> {
         self.start += count;
     }
 
-    /// Moves what is held to the front, and makes room for a piece behind it. False if memory is refused.
+    /// Moves the held bytes to the front and makes room for a piece behind them. Returns false if memory is refused.
     fn make_room(&mut self) -> bool
         ensures kept { MakesRoom self.old self.new }
         ensures room { result ≡ true → self.new.end + 65536 ≤ length self.new.bytes.items }
     {
-        // In place of `drain`, which moves byte by byte; `keep_rest` of wire_core does the same.
+        // Not `drain`, which moves byte by byte; `keep_rest` of wire_core does the same.
         self.bytes.copy_within(self.start..self.end, 0);
         self.end -= self.start;
         self.start = 0;
@@ -69,7 +69,7 @@ impl<'a, S: Source> HeldInput<'a, S> {
         self.bytes.len() >= least || self.bytes.resize(least, 0).is_ok()
     }
 
-    /// Reads the next piece behind what is held. False if there is none.
+    /// Reads the next piece behind the held bytes. Returns false at the end of the input.
     pub fn read_piece(&mut self) -> Result<bool, InputFault>
         ensures { HoldsMore S.left S.failed self.old result self.new }
     {
@@ -88,18 +88,18 @@ impl<'a, S: Source> HeldInput<'a, S> {
         Ok(count > 0)
     }
 
-    /// What is held, and all that still comes.
+    /// The held bytes, and all that still come.
     pub fn read_rest(&mut self, alloc: Global) -> Result<Vec<u8>, InputFault>
         ensures { ReadsRest S.left S.failed self.old result self.new }
     {
         'pieces: while self.read_piece()? {}
-        // `read_piece` has moved what is held to the front.
+        // `read_piece` has moved the held bytes to the front.
         self.bytes.truncate(self.end);
         (self.start, self.end) = (0, 0);
         Ok(mem::replace(&mut self.bytes, Vec::new(alloc)))
     }
 
-    /// Reads all that still comes, and holds nothing of it.
+    /// Reads to the end of the input and drops everything.
     pub fn pass_rest(&mut self) -> Result<(), InputFault>
         ensures { PassesRest S.left S.failed self.old result self.new }
     {

@@ -1,4 +1,4 @@
-//! The lines of a plain text, which are its records, and what they mean.
+//! The lines of a plain text: they are its records, with their meaning.
 ghost use Rattle.std.specs.Prelude.{◌≡◌, ◌<◌, ◌∷◌, [], None, false, true, length};
 ghost use Rattle.command_runs.specs.inner.Lines.{IsReturnAt};
 ghost use Rattle.command_runs.specs.inner.RowReaders.{IsMeant};
@@ -26,8 +26,8 @@ fn is_return(bytes: &[u8], place: usize) -> bool
     bytes[place] == b'\r' && (place + 1 == bytes.len() || bytes[place + 1] == b'\n')
 }
 
-/// Whether there is no quote, and each carriage return stands before a line feed or is the last byte. Both are looked
-/// for at once, so that the bytes are read once.
+/// Whether there is no quote, and each carriage return is before a line feed or is the last byte. One pass looks for
+/// both.
 fn are_lines(bytes: &[u8]) -> bool
     ensures quotes { result ≡ true → IsFirstByte (is_byte 34) bytes.now None }
     ensures returns { result ≡ true → ReturnsEndLines bytes.now }
@@ -46,8 +46,8 @@ fn are_lines(bytes: &[u8]) -> bool
     true
 }
 
-/// Whether the bytes are a plain text (`IsPlain`): then their records are their lines (`lines_are_records`). False
-/// claims nothing, as in `is_return` and `are_lines`: `csv` reads every text.
+/// Whether the bytes are a plain text (`IsPlain`): then its records are its lines (`lines_are_records`). False
+/// promises nothing, as in `is_return` and `are_lines`: `csv` reads every text.
 pub fn are_plain(bytes: &[u8]) -> bool
     ensures { result ≡ true → IsPlain bytes.now }
 {
@@ -55,7 +55,7 @@ pub fn are_plain(bytes: &[u8]) -> bool
 }
 
 /// The lane and the row of two fields, as `read_record` of csv_records reads those of a record. `read_row` of
-/// live/record.rt reads them too, and names the lane in a refusal.
+/// live/record.rt reads them too; its refusal names the lane.
 fn read_fields(
     pool: &mut RowPool,
     lanes: u8,
@@ -69,7 +69,7 @@ fn read_fields(
     Ok((lane, runs))
 }
 
-/// The lane that a line names, and its row. `read_record` of live/record.rt reads a line that may also be a message.
+/// The lane and the row of a line. `read_record` of live/record.rt reads lines that may also be messages.
 pub fn read_line(pool: &mut RowPool, lanes: u8, line: &[u8]) -> Result<(u8, Runs), RecordRefusal>
     ensures { IsMeant lanes (fields_in line.now) result }
 {
@@ -79,7 +79,7 @@ pub fn read_line(pool: &mut RowPool, lanes: u8, line: &[u8]) -> Result<(u8, Runs
     let second = &line[comma + 1..];
     match read_fields(pool, lanes, &line[..comma], second) {
         Ok(row) => Ok(row),
-        // A second comma is looked for only where the record is refused: widths have none.
+        // Only a refused record is searched for a second comma: widths have none.
         Err(RecordRefusal::Record(fault)) => match memchr(b',', second) {
             Some(_) => Err(RecordRefusal::Record(RecordFault::Csv)),
             None => Err(RecordRefusal::Record(fault)),

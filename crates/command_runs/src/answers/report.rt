@@ -1,4 +1,4 @@
-//! The lines that answer rows.
+//! The lines of answers to rows.
 ghost use Rattle.std.specs.Prelude.{◌≡◌, ◌∷◌, ◌++◌, [], IfOk, OnOk, decimal, map, string_bytes};
 ghost use Rattle.std.specs.List.{concat};
 ghost use Rattle.command_runs.specs.inner.AnswerLines.{AddsAnswer};
@@ -26,7 +26,7 @@ pub fn push_number(text: &mut String, number: usize) -> Result<(), AllocError>
 /// The longest text of a lane and a number, with a space behind each.
 const FRONT: usize = 15;
 
-/// Appends a lane and a number in decimal digits, each with a space behind it. They are appended at once.
+/// Appends a lane and a number in decimal digits, each followed by a space, in one step.
 fn push_front(text: &mut String, lane: u8, number: u32) -> Result<(), AllocError>
     ensures { OnOk result (string_bytes text.new ≡ string_bytes text.old ++ (decimal lane ++ (32 ∷ (decimal number ++ (32 ∷ []))))) }
 {
@@ -37,7 +37,7 @@ fn push_front(text: &mut String, lane: u8, number: u32) -> Result<(), AllocError
     text.push_str(unsafe { from_utf8_unchecked(&front[start..]) })
 }
 
-/// Appends the line of the answer to a delivery, as that of this lane and number.
+/// Appends the line of the answer to a delivery, with this lane and number.
 pub fn push_line(
     text: &mut String,
     form: Form,

@@ -1,4 +1,4 @@
-//! The rows of the records that a source gives, one after another.
+//! Reads the rows from the records of a source, one after another.
 ghost use Rattle.std.specs.Prelude.{None, ◌≡◌, ◌≢◌, true};
 ghost use Rattle.command_runs.specs.inner.Lines.{line_start};
 ghost use Rattle.command_runs.specs.inner.RowReaders.{GoesOnAs, GoesToCsv};
@@ -12,41 +12,41 @@ use memchr::memchr;
 use scan_core::{RowPool, Runs};
 use std::alloc::Global;
 
-/// If more than this is held of a line, `csv` reads it and all that follows, since with each piece all that is held is
-/// moved and looked through again. A choice for speed, which need not be `CHUNK` of held_input.rt: the records are the
-/// same at any number.
+/// If more bytes than this of one line are held, `csv` reads it and all that follows, because each new piece moves
+/// and searches all held bytes again. The number is a choice for speed and need not be `CHUNK` of held_input.rt: the
+/// records are the same with any number.
 const LONG: usize = 65_536;
 
-/// Where the reading of records stands.
+/// How far the reading of records has come.
 #[derive(Drop)]
 pub enum Course {
-    /// The records of what is held are its lines. The line feed of the line before, if there was one, is held too:
-    /// behind it nothing is taken for a byte order mark.
+    /// Each held line is a record. If a line came before, its line feed is held too: behind it no bytes count as a
+    /// byte order mark.
     Lines,
-    /// The source has given all. The last line is held, which no line feed ends and which may have no byte.
+    /// The source has ended. The last line is held; it has no line feed and may be empty.
     LastLine,
-    /// The source has given all, and `csv` reads what was held and what came after it. In a box, since its reader is
-    /// too large to be moved.
+    /// The source has ended, and `csv` reads what was held and what came after it. In a box, since its reader is too
+    /// large to move.
     Csv(Box<Records>),
     /// All records were read.
     Ended,
-    /// The input is refused for this.
+    /// The input is refused for this reason.
     Refused(RecordsFault),
 }
 
-/// Reads the records that a source gives, and gives the row of each.
+/// Reads the records of a source, and returns the row of each.
 #[derive(Drop)]
 pub struct RowReader<'a, S> {
     alloc: Global,
     lanes: u8,
     input: HeldInput<'a, S>,
-    /// How many rows were given: the index of the next record.
+    /// How many rows it has returned: the index of the next record.
     pub count: usize,
-    /// Where the reading stands, or why it has stopped.
+    /// How far the reading has come, or why it has stopped.
     pub course: Course,
 }
 
-/// Where the first line that is held begins: behind the line feed of the line before it, if that is held.
+/// Where the first held line begins: behind the line feed of the line before it, if that is held.
 fn line_start(bytes: &[u8]) -> usize
     ensures { result ≡ line_start bytes.now }
 {
@@ -56,7 +56,7 @@ fn line_start(bytes: &[u8]) -> usize
     }
 }
 
-/// Gives `csv` what is held, and all that still comes.
+/// Hands `csv` the held bytes and all that still come.
 fn give_to_csv<S: Source>(alloc: Global, input: &mut HeldInput<'_, S>) -> Result<Course, InputFault>
     ensures { GoesToCsv S.left S.failed input.old result input.new }
 {
@@ -69,8 +69,8 @@ fn give_to_csv<S: Source>(alloc: Global, input: &mut HeldInput<'_, S>) -> Result
     }
 }
 
-/// How the reading goes on when no whole line is held: by `csv`, if more than `LONG` is held, or if what is held with
-/// the next piece does not pass `are_plain`; by the last line, if nothing more comes; and else by lines.
+/// How the reading continues if no whole line is held: with `csv`, if more than `LONG` bytes are held or if these
+/// with the next piece fail `are_plain`; with the last line, if nothing more comes; otherwise with lines.
 fn next_course<S: Source>(alloc: Global, input: &mut HeldInput<'_, S>) -> Result<Course, InputFault>
     ensures { GoesOnAs S.left S.failed input.old result input.new }
 {
@@ -88,7 +88,7 @@ fn next_course<S: Source>(alloc: Global, input: &mut HeldInput<'_, S>) -> Result
 impl<'a, S: Source> RowReader<'a, S> {
     ghost use Rattle.command_runs.specs.inner.RowReaders.{BeginsRows, GivesNextRow, GoesOnFrom, IsAtLastLine, PassesRows, ReadsLine, StaysAtLines, TellsRow, WasRead, WhyRefused, is_over};
 
-    /// A reader for this many lanes, which has read nothing of the source.
+    /// A reader for this many lanes. It has read nothing of the source yet.
     pub fn new(alloc: Global, lanes: u8, source: &'a mut S) -> RowReader<'a, S>
         ensures same_reference { result.input.source.ghost_name ≡ source.entry.ghost_name }
         ensures gave { BeginsRows S.left S.failed lanes source.entry result }
@@ -102,8 +102,8 @@ impl<'a, S: Source> RowReader<'a, S> {
         }
     }
 
-    /// Why the input is refused if its next record is. The rest of the source is read first, and if that fails, its
-    /// fault is reported and not the record's.
+    /// Why the input is refused if its next record is. It first reads the rest of the source; if that fails, it
+    /// reports that error instead of the record's.
     fn why_refused(&mut self, refusal: RecordRefusal) -> RecordsFault
         ensures { WhyRefused S.left S.failed self.old refusal self.new result }
     {
@@ -112,19 +112,19 @@ impl<'a, S: Source> RowReader<'a, S> {
                 Ok(()) => refusal.at(self.count),
                 Err(fault) => RecordsFault::from(fault),
             },
-            // Behind the lines the input was read to its end.
+            // After the lines, the input was read to its end.
             _ => refusal.at(self.count),
         }
     }
 
-    /// The row of a record that was read; none if the record is refused, and the input with it.
+    /// The row of a record. If the record is refused, the whole input is, and there is no row.
     fn tell(&mut self, row: Result<(u8, Runs), RecordRefusal>) -> Option<(u8, Runs)>
         ensures tells { TellsRow S.left S.failed self.old row result self.new }
         ensures over { result ≡ None → is_over self.new.course ≡ true }
     {
         match row {
             Ok(row) => {
-                // `KeepsRows` bounds the count, but only inside the clause: by the code alone it could overflow.
+                // `KeepsRows` bounds the count, but only inside the clause: for the code alone it could overflow.
                 self.count = self.count.saturating_add(1);
                 Some(row)
             }
@@ -136,7 +136,8 @@ impl<'a, S: Source> RowReader<'a, S> {
         }
     }
 
-    /// The row of the next line that has a byte, or why it is refused. None if no such line is held with its line feed.
+    /// The row of the next line that is not empty, or why it is refused. None if no such line is held with its line
+    /// feed.
     fn next_line(&mut self, pool: &mut RowPool) -> Option<Result<(u8, Runs), RecordRefusal>>
         requires { self.old.course ≡ Course.Lines }
         ensures stays { StaysAtLines self.old result self.new }
@@ -159,7 +160,7 @@ impl<'a, S: Source> RowReader<'a, S> {
         }
     }
 
-    /// The row of the last line, which no line feed ends, or why the line is refused; none if it has no byte.
+    /// The row of the last line, which has no line feed, or why the line is refused; none if it is empty.
     fn last_line(&mut self, pool: &mut RowPool) -> Option<Result<(u8, Runs), RecordRefusal>>
         requires { self.old.course ≡ Course.LastLine }
         ensures reads { ReadsLine S.left S.failed self.old result self.new }
@@ -174,7 +175,7 @@ impl<'a, S: Source> RowReader<'a, S> {
         Some(read_line(pool, self.lanes, line))
     }
 
-    /// Goes on by `next_course` when no whole line is held. If that fails, the input is refused.
+    /// Continues with `next_course` if no whole line is held. If that fails, the input is refused.
     fn go_on(&mut self)
         requires { IsAtLastLine self.old }
         ensures { GoesOnFrom S.left S.failed self.old self.new }
@@ -185,7 +186,7 @@ impl<'a, S: Source> RowReader<'a, S> {
         };
     }
 
-    /// The row of the next record, if the reading has left the lines.
+    /// The row of the next record, once the reading is past the lines.
     fn row_behind_lines(&mut self, pool: &mut RowPool) -> Option<(u8, Runs)>
         requires read { WasRead S.left S.failed self.old }
         requires behind { self.old.course ≢ Course.Lines }
@@ -210,7 +211,7 @@ impl<'a, S: Source> RowReader<'a, S> {
         }
     }
 
-    /// The next record's row, and its lane. None if all were read, or the input is refused.
+    /// The row of the next record, and its lane. None if there are no more records, or if the input is refused.
     pub fn next_row(&mut self, pool: &mut RowPool) -> Option<(u8, Runs)>
         requires { WasRead S.left S.failed self.old }
         ensures gives { GivesNextRow S.left S.failed self.old result self.new }
@@ -233,13 +234,13 @@ impl<'a, S: Source> RowReader<'a, S> {
         ensures over { is_over self.new.course ≡ true }
     {
         let mut pool = RowPool::none(self.alloc);
-        // It ends, since there is at most one record more than bytes.
+        // The loop ends, since there is at most one more record than there are bytes.
         'rows: while let Some((_, row)) = self.next_row(&mut pool) {
             pool.put_back(row);
         }
     }
 
-    /// The source, of which nothing more is read.
+    /// The source. It is not read any more.
     pub fn into_source(self) -> &'a mut S
         ensures same_reference { result.ghost_name ≡ self.entry.input.source.ghost_name }
         ensures same { result.now ≡ self.entry.input.source.now }

@@ -1,4 +1,4 @@
-//! Rows of records that are read as workers answer them.
+//! Reads rows from records while workers answer them.
 ghost use Rattle.std.specs.Prelude.{◌≡◌, IfErr, IfOk, string_bytes, true};
 ghost use Rattle.hub_core.specs.Serving.{AreSeatCounts};
 ghost use Rattle.command_runs.specs.Runs.{TellsFault};
@@ -19,26 +19,26 @@ use std::alloc::{AllocError, Global};
 use std::sync::Wait;
 use std::thread::Threads;
 
-/// Why the rows of records are not answered.
+/// Why the rows of records have no answers.
 #[derive(Clone, Copy, Debug, PartialEq, Eq)]
 pub enum RowsFault {
-    /// The records are not taken, or a growth was refused.
+    /// The records are refused, or memory is.
     Records(RecordsFault),
     /// A thread could not be started.
     NoThread,
 }
 
-/// Why `wait` fails: the input is refused, and its reader says for what.
+/// Why `wait` fails: the input is refused, and its reader has the reason.
 #[derive(Clone, Copy, Debug, PartialEq, Eq)]
 struct Refused;
 
-/// The records that a source gives, and the lines that answer the rows that have come back.
+/// The records of a source, and the lines of the rows that have come back.
 #[derive(Drop)]
 struct RecordRows<'a, S> {
     rows: RowReader<'a, S>,
     /// The lines of each lane.
     texts: Vec<String>,
-    /// The memory of the rows that were answered.
+    /// The memory of rows that have their answers.
     pool: RowPool,
 }
 
@@ -69,13 +69,13 @@ impl<'a, S: Source> Traffic for RecordRows<'a, S> {
     fn wait(&mut self) -> Result<bool, Refused> {
         match self.rows.course {
             Course::Ended => Ok(false),
-            // The input is refused. No other course is met, since `next` has given no row.
+            // The input is refused. No other state is possible, since `next` has given no row.
             _ => Err(Refused),
         }
     }
 }
 
-/// Has the rows of a reader answered. Gives back the reader, and the lines of each lane if all its rows were answered.
+/// Serves the rows of a reader. Returns the reader and, if all its rows have answers, the lines of each lane.
 fn serve_rows<'a, R: Threads + Wait + Sync, S: Source, G: Gate + Sync>(
     rt: &R,
     alloc: Global,
@@ -93,11 +93,11 @@ fn serve_rows<'a, R: Threads + Wait + Sync, S: Source, G: Gate + Sync>(
     ensures answered { AreAnswered S.left S.failed lanes year rows.entry.input.source result.0 result.1 }
 {
     let traffic = RecordRows { rows, texts, pool };
-    // A law, by which the clause `answered` follows: this call does nothing.
+    // A law from which the clause `answered` follows; the call does nothing.
     answers_are_read();
     match serve_traffic(rt, alloc, traffic, lanes, workers, year, gate) {
         Ok((traffic, Ended::Done)) => (traffic.rows, Ok(traffic.texts)),
-        // Memory was refused, or a record is: `tell_fault` looks at the reader first.
+        // Memory was refused, or a record was: `tell_fault` looks at the reader first.
         Ok((traffic, _)) => (traffic.rows, Err(AnswerFault::NoMemory)),
         Err(
             NotBegun {
@@ -108,8 +108,8 @@ fn serve_rows<'a, R: Threads + Wait + Sync, S: Source, G: Gate + Sync>(
     }
 }
 
-/// What is reported if rows could not be served for this fault, after `pass_rows`. If the reader is refused, its reason
-/// comes before the fault. If the source has no record, the report is empty: there was nothing to answer.
+/// The result if rows could not be served for this reason, after `pass_rows`. If the reader refuses the input, its
+/// reason comes first. If the source has no record, the report is empty: there was nothing to answer.
 fn tell_fault<S: Source>(
     alloc: Global,
     rows: &RowReader<'_, S>,
@@ -129,12 +129,12 @@ fn tell_fault<S: Source>(
     }
 }
 
-/// The lines of `answer_lines` for the rows that a source gives each lane.
+/// The lines of `answer_lines` for the rows that a source has for each lane.
 ///
-/// The source gives CSV records of two fields: a lane, and the widths of a row in dots with one space between them. No
-/// record is read while a row waits for room in the hub. The first record that has a fault is reported, unless a read
-/// fails, the input is too long or memory is refused. `NoThread` is reported only if no record has a fault and there is
-/// a row.
+/// The source has CSV records of two fields: a lane, and the widths of a row in dots, separated by single spaces. It
+/// reads no record while a row waits for room in the hub. The error is that of the first faulty record, unless a read
+/// fails, the input is too long or memory is refused. `NoThread` is the error only if no record is faulty and there
+/// is a row.
 pub fn answer_records<R: Threads + Wait + Sync, S: Source, G: Gate + Sync>(
     rt: &R,
     alloc: Global,
@@ -164,7 +164,7 @@ pub fn answer_records<R: Threads + Wait + Sync, S: Source, G: Gate + Sync>(
             tell_fault(alloc, &rows, fault)
         }
     };
-    // Taken out of the reader, so that the clauses about `source` follow.
+    // Taken out of the reader: the clauses about `source` follow from this.
     let _source = rows.into_source();
     told
 }

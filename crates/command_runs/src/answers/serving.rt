@@ -1,5 +1,5 @@
-//! Rows that are all there before workers answer them, and the report of the answers. rows.rt is for rows that are read
-//! meanwhile, and takes what it shares from here.
+//! Serves rows that are all there from the start, and reports the answers. rows.rt serves rows that it reads
+//! meanwhile, and uses parts of this file.
 ghost use Rattle.std.specs.Prelude.{[], ◌≡◌, ◌↔◌, ◌<◌, All, map, replicate, true, vec_len, IfOk, IsErrOf, IsTrue, string_bytes};
 ghost use Rattle.hub_core.specs.Feeds.{AreGiven, are_given, rests_of};
 ghost use Rattle.hub_core.specs.Serving.{are_counts, items_of};
@@ -19,7 +19,7 @@ use std::convert::Infallible;
 use std::sync::Wait;
 use std::thread::Threads;
 
-/// Why rows are not answered.
+/// Why rows have no answers.
 #[derive(Clone, Copy, Debug, PartialEq, Eq)]
 pub enum AnswerFault {
     /// A thread could not be started.
@@ -36,8 +36,8 @@ impl From<AllocError> for AnswerFault {
     }
 }
 
-/// Why rows are not answered, if they are not served. `serve_traffic` never reports `BadCount`. `live_fault_of` of
-/// live/answering.rt is the same for a live input.
+/// Why rows have no answers if `serve_traffic` fails. It never reports `BadCount`. `live_fault_of` of
+/// live/answering.rt does the same for a live input.
 pub fn fault_of(fault: ServeFault) -> AnswerFault
     ensures { result ≡ answer_fault fault }
 {
@@ -54,8 +54,8 @@ fn are_rowless(feeds: &[Vec<Runs>]) -> bool
     feeds.iter().all(|feed| feed.is_empty())
 }
 
-/// The rows that are left of each lane, and the lines that answer those that have come back. `ListedRows` of hub_core
-/// differs in `bring`, which keeps the delivery in place of a line, and so in `Came`.
+/// The rows that are left of each lane, and the lines of those that have come back. `ListedRows` of hub_core differs
+/// in `bring`, which keeps the delivery instead of a line, and so in `Came`.
 #[derive(Drop)]
 struct AnsweredRows {
     feeds: Feeds,
@@ -91,7 +91,7 @@ impl Traffic for AnsweredRows {
     }
 }
 
-/// Appends the line that answers a delivery to the text of its lane.
+/// Appends the line of the answer to a delivery to the text of its lane.
 pub fn push_answer_of(texts: &mut Vec<String>, delivery: &Delivery) -> Result<(), AllocError>
     requires { delivery.now.lane < vec_len texts.old }
     ensures { IfOk result (λ _. TellsOf delivery.now texts.old.items texts.new.items) }
@@ -118,7 +118,7 @@ pub fn make_texts(alloc: Global, lanes: u8) -> Result<Vec<String>, AllocError>
     Ok(texts)
 }
 
-/// Has the rows of each feed answered: the lines of each lane.
+/// Answers the rows of each feed. Returns the lines of each lane.
 fn answer_each<R: Threads + Wait + Sync, G: Gate + Sync>(
     rt: &R,
     alloc: Global,
@@ -136,7 +136,8 @@ fn answer_each<R: Threads + Wait + Sync, G: Gate + Sync>(
         feeds: Feeds::new(alloc, feeds)?,
         texts,
     };
-    // Laws, by which `traffic` may be served and the clause `lines` follows: neither call does anything.
+    // Laws. From the first it follows that `traffic` may be served, from both the clause `lines`. The calls do
+    // nothing.
     feeds_are_given();
     answers_are_read();
     match serve_traffic(rt, alloc, traffic, lanes, workers, year, gate) {
@@ -147,8 +148,8 @@ fn answer_each<R: Threads + Wait + Sync, G: Gate + Sync>(
     }
 }
 
-/// The lines that answer the rows of each feed, lane by lane and by number. All rows go through one hub, with this many
-/// workers and this gate (`serve_traffic` of hub_core). `NoThread` comes only if a feed has a row.
+/// The lines of the answers to each feed's rows, lane by lane and by number. All rows go through one hub with this
+/// many workers and this gate (`serve_traffic` of hub_core). `NoThread` is possible only if a feed has a row.
 pub fn answer_lines<R: Threads + Wait + Sync, G: Gate + Sync>(
     rt: &R,
     alloc: Global,

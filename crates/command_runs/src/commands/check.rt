@@ -8,7 +8,7 @@ use digits_core::{Sink, Source, write_all};
 use element_core::{Year, one_list_or_fault};
 use std::alloc::Global;
 
-/// Writes the lines of `check_lines` for the texts that a source gives.
+/// Writes the lines of `check_lines` for the texts of a source.
 pub fn run_check<S: Source, W: Sink>(
     alloc: Global,
     year: Year,
@@ -22,7 +22,7 @@ pub fn run_check<S: Source, W: Sink>(
     Ok(())
 }
 
-/// A law: of the same bytes `check` writes one text at most.
+/// A law: for the same bytes, `check` writes at most one text.
 pub fn one_check()
     ensures { OneCheck }
 {

@@ -12,7 +12,7 @@ use std::alloc::Global;
 use std::sync::Wait;
 use std::thread::Threads;
 
-/// Writes the lines of `answer_records`, with the lanes, workers and year that the options ask for.
+/// Writes the lines of `answer_records`, with the lanes, workers and year of the options.
 pub fn run_lanes<R: Threads + Wait + Sync, S: Source, W: Sink, G: Gate + Sync>(
     rt: &R,
     alloc: Global,
@@ -36,7 +36,7 @@ pub fn run_lanes<R: Threads + Wait + Sync, S: Source, W: Sink, G: Gate + Sync>(
     Ok(())
 }
 
-/// A law: of the same bytes `lanes` writes one text at most.
+/// A law: for the same bytes, `lanes` writes at most one text.
 pub fn one_lanes()
     ensures { OneLanes }
 {

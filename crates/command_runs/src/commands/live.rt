@@ -1,4 +1,4 @@
-//! The command `live`: records in, the answer of each out as soon as it can be.
+//! The command `live`: records in, the answer to each out as soon as possible.
 ghost use Rattle.std.specs.Prelude.{◌≡◌, [], IsErrOf};
 ghost use Rattle.command_runs.specs.Faults.{no_thread};
 ghost use Rattle.command_runs.specs.commands.Lives.{IsLive};
@@ -13,7 +13,7 @@ use std::sync::Wait;
 use std::thread::Threads;
 use wire_core::Wire;
 
-/// Runs `answer_live` with the terms that the options ask for. Its fault is given back as the command's.
+/// Runs `answer_live` with the terms of the options. Returns its error as the command's.
 pub fn run_live<R: Threads + Wait + Sync, W: Wire + Drop, G: Gate + Sync>(
     rt: &R,
     alloc: Global,

@@ -12,7 +12,7 @@ use element_core::one_list_or_fault;
 use sheet_core::{Grid, Label, check_labels, one_printed, print_pbm};
 use std::alloc::Global;
 
-/// Writes labels as images or as lines, as the options ask. The same labels are refused either way.
+/// Writes labels as images or as lines, as the options ask. It refuses the same labels either way.
 fn write_labels<W: Sink>(
     alloc: Global,
     options: PrintOptions,
@@ -34,9 +34,9 @@ fn write_labels<W: Sink>(
     Ok(())
 }
 
-/// Prints the labels that a source gives (`read_labels`): the images of their sheets, or a line for each label, as the
-/// options ask. A grid outside its limits is refused before any input is read. If a label cannot be printed, nothing is
-/// written.
+/// Prints the labels of a source (`read_labels`): the images of their sheets, or a line for each label, as the
+/// options ask. It refuses a grid outside the limits before it reads any input. If a label cannot be printed, it
+/// writes nothing.
 pub fn run_print<S: Source, W: Sink>(
     alloc: Global,
     options: PrintOptions,
@@ -50,7 +50,7 @@ pub fn run_print<S: Source, W: Sink>(
     write_labels(alloc, options, grid, labels.as_slice(), sink)
 }
 
-/// A law: of the same bytes `print` writes one text at most, if only texts of bytes count (`OnePrint` says why).
+/// A law: for the same bytes, `print` writes at most one text, if only texts of bytes count (`OnePrint` says why).
 pub fn one_print()
     ensures { OnePrint }
 {

@@ -14,9 +14,10 @@ use std::alloc::Global;
 use std::sync::Wait;
 use std::thread::Threads;
 
-/// Writes the lines of `answer_lines` for the rows of sheets that a source gives as PBM images (`read_columns`).
+/// Writes the lines of `answer_lines` for the rows of sheets in a source of PBM images (`read_columns`).
 ///
-/// A grid is refused as in `run_print`, and an image of another size than the grid's once all images are read.
+/// It refuses a grid as `run_print` does. It refuses an image whose size differs from the grid's after it has read
+/// all images.
 pub fn run_scan<R: Threads + Wait + Sync, S: Source, W: Sink, G: Gate + Sync>(
     rt: &R,
     alloc: Global,
@@ -36,7 +37,7 @@ pub fn run_scan<R: Threads + Wait + Sync, S: Source, W: Sink, G: Gate + Sync>(
     Ok(())
 }
 
-/// A law: of the same bytes `scan` writes one text at most.
+/// A law: for the same bytes, `scan` writes at most one text.
 pub fn one_scan()
     ensures { OneScan }
 {

@@ -1,4 +1,4 @@
-//! Records that are answered as they come.
+//! Answers records as they come.
 ghost use Rattle.std.specs.Prelude.{◌≡◌, [], IsErrOf};
 ghost use Rattle.hub_core.specs.Serving.{AreSeatCounts};
 ghost use Rattle.command_runs.specs.inner.LiveEnds.{EndsAs, live_fault};
@@ -14,7 +14,7 @@ use std::sync::Wait;
 use std::thread::Threads;
 use wire_core::Wire;
 
-/// Why a live input is not answered, if it is not served: as `fault_of` of answers/serving.rt for other rows.
+/// Why a live input has no answers if the hub fails; `fault_of` of answers/serving.rt does the same for other rows.
 fn live_fault_of(fault: ServeFault) -> LiveFault
     ensures { result ≡ live_fault fault }
 {
@@ -24,26 +24,26 @@ fn live_fault_of(fault: ServeFault) -> LiveFault
     }
 }
 
-/// How the answering has ended, by what the live input reports and by how it was served.
+/// The result: what the live input reports, or how its service ended.
 fn ending(stopped: Option<LiveFault>, ended: Ended<Stopped, Infallible>) -> Result<(), LiveFault>
     ensures { EndsAs stopped ended result }
 {
     match (stopped, ended) {
         (Some(fault), _) => Err(fault),
         (None, Ended::Done) => Ok(()),
-        // Memory was refused to the hub: if `wait` fails, the live input has stopped and says why.
+        // The hub was refused memory: if `wait` fails, the live input has stopped and says why.
         (None, _) => Err(LiveFault::NoMemory),
     }
 }
 
-/// Answers each record that comes over a wire by one line, in the order of the records, as soon as it can. A record is
-/// a line: a lane, a comma, and the widths of a row or a message of a scanner. Workers read the rows as in
-/// `answer_lines`, and the calling thread may read some too, past no gate. The answer to a row has the row's number in
-/// its lane; one to a message or to a refused record has `-` in its place.
+/// Answers each record from a wire with one line, in the order of the records, as soon as possible. A record is a
+/// line: a lane, a comma, and the widths of a row or a message of a scanner. Workers read the rows as in
+/// `answer_lines`. The calling thread may read some too, without a gate. The answer to a row has the row's number in
+/// its lane; the answer to a message or to a refused record has `-` instead.
 ///
-/// Before each read all records whose lines have ended are answered. It ends with the input, or if a read or a write
-/// fails, memory is refused or a thread could not be started. The wire is always given back; after `NoThread` it is as
-/// it was: nothing was read and nothing written.
+/// Whenever it reads, it has already answered all complete lines. It ends with the input, or if a read or a write
+/// fails, memory is refused or a thread could not be started. It always returns the wire. After `NoThread` the wire
+/// is unchanged: nothing was read and nothing written.
 pub fn answer_live<R: Threads + Wait + Sync, W: Wire + Drop, G: Gate + Sync>(
     rt: &R,
     alloc: Global,
@@ -56,7 +56,7 @@ pub fn answer_live<R: Threads + Wait + Sync, W: Wire + Drop, G: Gate + Sync>(
     ensures lived { Lived terms W.Did W.read_failed W.write_failed W.at_end wire result.0 result.1 }
     ensures untouched { IsErrOf result.1 LiveFault.NoThread → result.0 ≡ wire }
 {
-    // Field by field: if `terms` is handed on whole, the borrow checker refuses to read `terms.year` after that.
+    // Field by field: after `terms` as a whole is passed on, the borrow checker refuses to read `terms.year`.
     let asked = LiveTerms {
         lanes: terms.lanes,
         workers: terms.workers,
@@ -67,7 +67,7 @@ pub fn answer_live<R: Threads + Wait + Sync, W: Wire + Drop, G: Gate + Sync>(
         Ok(live) => live,
         Err(wire) => return (wire, Err(LiveFault::NoMemory)),
     };
-    // A law, by which the clause `lived` follows: the call does nothing.
+    // A law from which the clause `lived` follows; the call does nothing.
     served_by_place();
     match serve_traffic(
         rt,

@@ -1,8 +1,8 @@
-//! The faults that end a live input, and whether the lines of its last turn may still be written.
+//! The errors that end a live input, and whether it may still write the lines of its last turn.
 ghost use Rattle.std.specs.Prelude.{◌↔◌, IsTrue};
 ghost use Rattle.command_runs.specs.inner.Stops.{MayStillWrite};
 
-/// Why a live input is answered no longer.
+/// Why a live input gets no more answers.
 #[derive(Clone, Copy, Debug, PartialEq, Eq)]
 pub enum LiveFault {
     /// A read failed.
@@ -15,7 +15,7 @@ pub enum LiveFault {
     NoThread,
 }
 
-/// Whether the lines of a turn may still be written: nothing has stopped, or memory alone was refused.
+/// Whether the lines of a turn may still be written: nothing has stopped it, or only refused memory has.
 pub fn is_open(stopped: Option<LiveFault>) -> bool
     ensures { IsTrue result ↔ MayStillWrite stopped }
 {

@@ -1,4 +1,4 @@
-//! A live input: the rows of the lines that come over a wire, and the lines that answer them.
+//! A live input: the rows in the lines of a wire, and the lines of the answers.
 ghost use Rattle.std.specs.Prelude.{◌≡◌, [], IfErr, IfOk, Ok, OnOk, false, length, true};
 ghost use Rattle.hub_core.specs.Traffics.{IsLed, IsOwedNothing, Stays, StaysOwedNothing};
 ghost use Rattle.command_runs.specs.inner.Came.{HasBegun, HoldsOn, TakesLine, after_line};
@@ -18,26 +18,26 @@ use std::alloc::{AllocError, Global};
 use std::convert::Infallible;
 use wire_core::{Lines, Wire, write_all};
 
-/// How many records are answered in a turn, at most, so that what waits has a limit. The number is a choice for speed,
-/// since a turn ends with a write: no claim rests on it.
+/// How many records a turn answers at most, so that the waiting rows have a limit. The number is a choice for speed,
+/// since a turn ends with a write: no proof depends on it.
 const TURN: usize = 1_024;
 
 /// The live input has stopped: `Live::stopped` says why.
 #[derive(Clone, Copy, Debug, PartialEq, Eq)]
 pub struct Stopped;
 
-/// What was taken of what has come: one line at most.
+/// What a live input took of the bytes that have come: at most one line.
 #[derive(Debug, Drop)]
 pub enum NextLine {
-    /// Nothing: no line that has ended is left.
+    /// Nothing: no complete line is left.
     Nothing,
-    /// A line that gives no row: it has no byte, or its record gets no ticket.
+    /// A line without a row: it is empty, or its record gets no ticket.
     Line,
-    /// A line that gives a row of this lane.
+    /// A line with a row of this lane.
     Row(u8, Runs),
 }
 
-/// A live input: a wire on which records come and their answers go, and how far it has come.
+/// A live input: a wire that carries records and their answers, and how far it has come.
 #[derive(Drop)]
 pub struct Live<W> {
     /// The wire.
@@ -50,16 +50,16 @@ pub struct Live<W> {
     lanes: Vec<Waiting>,
     /// The replies to the turn's records, in their order.
     replies: Vec<PendingReply>,
-    /// The memory of the rows that were answered.
+    /// The memory of rows that have their answers.
     pool: RowPool,
-    /// What came over the wire and was not taken yet.
+    /// Bytes from the wire that were not taken yet.
     lines: Lines,
-    /// Why nothing more is taken, once it has stopped.
+    /// Why it takes nothing more, once it has stopped.
     pub stopped: Option<LiveFault>,
 }
 
 impl<W: Wire> Live<W> {
-    /// A live input, of which nothing has been read. If memory is refused the wire is given back.
+    /// A live input. It has read nothing yet. If memory is refused, it returns the wire.
     pub fn new(alloc: Global, terms: LiveTerms, wire: W) -> Result<Live<W>, W>
         requires { W.Did wire wire [] }
         ensures ok { IfOk result (HasBegun ⟦<Live<W> as Traffic>⟧.Came terms wire) }
@@ -87,13 +87,13 @@ impl<W: Wire> Live<W> {
         })
     }
 
-    /// Keeps the reply to the record that is held, and says what its line gives. `take_line` takes the line after that.
+    /// Keeps the reply to the record that is held, and returns what its line has. `take_line` then takes the line.
     fn keep(&mut self, found: Record) -> Result<NextLine, AllocError>
         requires { IsHeld (length self.old.lanes.items) self.old.lines found }
         ensures takes { TakesLine ⟦<Live<W> as Traffic>⟧.Came result self.old (after_line result self.new) }
         ensures holds { HoldsOn self.old self.new }
     {
-        // First, so that no number is spent on a row whose reply finds no room.
+        // First, so that a row gets no number if its reply finds no room.
         self.replies.reserve(1)?;
         match found {
             Record::Blank => Ok(NextLine::Line),
@@ -115,7 +115,8 @@ impl<W: Wire> Live<W> {
         }
     }
 
-    /// Takes the next line, if one has ended, and keeps the reply to its record. If memory is refused, the line stays.
+    /// Takes the next complete line, if there is one, and keeps the reply to its record. If memory is refused, the
+    /// line stays.
     fn take_line(&mut self) -> Result<NextLine, AllocError>
         requires { IsLed ⟦<Live<W> as Traffic>⟧.Came self.old }
         ensures takes { TakesLine ⟦<Live<W> as Traffic>⟧.Came result self.old self.new }
@@ -139,8 +140,8 @@ impl<W: Wire> Live<W> {
         }
     }
 
-    /// Writes the lines of the turn, whose rows have all come back, and ends the turn: none of its deliveries is kept.
-    /// Nothing is written after a read or a write has failed, or if memory for the lines is refused.
+    /// Writes the lines of the turn, whose rows have all come back, and ends the turn: it keeps none of its
+    /// deliveries. It writes nothing after a read or a write has failed, or if memory for the lines is refused.
     fn write_turn(&mut self) -> Result<(), Stopped>
         requires { IsOwedNothing ⟦<Live<W> as Traffic>⟧.Came self.old }
         ensures came { StaysOwedNothing ⟦<Live<W> as Traffic>⟧.Came self.old self.new }
@@ -172,7 +173,7 @@ impl<W: Wire> Live<W> {
         }
     }
 
-    /// Reads once, unless a line that has ended is still to be taken. False at the end of the input.
+    /// Reads once, unless there is still a complete line to take. Returns false at the end of the input.
     fn read_on(&mut self) -> Result<bool, Stopped>
         requires { self.old.replies.items ≡ [] }
         ensures came { Stays ⟦<Live<W> as Traffic>⟧.Came self.old self.new }
@@ -211,14 +212,14 @@ impl<W: Wire> Traffic for Live<W> {
 
     ghost Leaves = { λ s t. ⊥ };
 
-    /// To wake a worker takes longer than to read a row that comes alone. No claim rests on it: the answers are the
+    /// Waking a worker takes longer than reading a row that comes alone. No proof depends on it: the answers are the
     /// same.
     fn lets_caller_read(&self) -> bool {
         true
     }
 
     fn next(&mut self) -> Option<(u8, Runs)> {
-        // Lines without a byte have no reply, so the loop has a limit of its own.
+        // Empty lines have no reply, so the loop has a limit of its own.
         'lines: for _ in 0..TURN {
             if self.stopped.is_some() || self.replies.len() >= TURN {
                 return None;

@@ -1,18 +1,18 @@
-//! Laws about the lines of a live input, each the contract of a function that does nothing.
+//! Laws about the lines of a live input. Each is the contract of a function that does nothing.
 ghost use Rattle.command_runs.specs.live.Laws.{LinesAreRecords, LinesAreReport};
 
 use csv_records::messages_are_no_rows;
 
-/// Of a plain text (`IsPlain`: no byte order mark in front, no quote, and carriage returns only at the ends of lines),
-/// the records that `csv` reads are the lines that have a byte, without the carriage return at their end, cut at their
-/// commas.
+/// In a plain text (`IsPlain`: no byte order mark in front, no quote, and carriage returns only at line ends), the
+/// records that `csv` reads are the lines that are not empty, without the carriage return at their end, split at
+/// their commas.
 pub fn lines_are_records()
     ensures { LinesAreRecords }
 {}
 
-/// If each record of a plain text means a row, no line is too long and no lane has more rows than numbers, then `live`
-/// answers each row by one line, in the order of the records, and lane by lane these lines are the report that `lanes`
-/// writes. `live` is asked for the human-readable form, the only one that `lanes` has.
+/// If each record of a plain text is a row, no line is too long and no lane has more rows than numbers, then `live`
+/// answers each row with one line, in the order of the records. Lane by lane, these lines are the report that `lanes`
+/// writes. This is for the human-readable form, the only one that `lanes` has.
 pub fn lines_are_report()
     ensures { LinesAreReport }
 {

@@ -1,4 +1,4 @@
-//! The replies that are pending in a turn, and their lines.
+//! The replies of a turn before they are written, and their lines.
 ghost use Rattle.std.specs.Prelude.{All, OnOk, string_bytes};
 ghost use Rattle.command_runs.specs.inner.Came.{IsReady, IsToldBy, TellsPending};
 ghost use Rattle.command_runs.specs.inner.Meaning.{told_of};
@@ -14,16 +14,16 @@ use message_core::message_line;
 use std::alloc::AllocError;
 use std::fmt::Write;
 
-/// What a record is answered with.
+/// The reply to a record.
 #[derive(Debug, Drop)]
 pub enum PendingReply {
     /// The answer to the row of this lane and number.
     Row(u8, u32),
-    /// The notice, in place of an answer.
+    /// The notice, instead of an answer.
     Notice(Notice),
 }
 
-/// Appends the line of a message: its lane, `-` in place of a number, and what it says.
+/// Appends the line of a message: its lane, `-` instead of a number, and its elements or its error.
 fn push_message(
     text: &mut String,
     terms: &LiveTerms,
@@ -39,7 +39,7 @@ fn push_message(
     text.push('\n')
 }
 
-/// Appends the line of a notice, with `-` in place of a number, and of a lane if it names none.
+/// Appends the line of a notice, with `-` instead of a number, and instead of a lane if it names none.
 fn push_notice(text: &mut String, terms: &LiveTerms, notice: &Notice) -> Result<(), AllocError>
     ensures { Adds result text.old text.new (IsToldBy terms.now (told_of notice.now)) }
 {
@@ -77,7 +77,7 @@ fn push_reply(
     }
 }
 
-/// The lines of the replies, in place of what the text held.
+/// Replaces the text by the lines of the replies.
 pub fn push_replies(
     text: &mut String,
     terms: &LiveTerms,

@@ -46,27 +46,27 @@ impl fmt::Display for LineFault {
     }
 }
 
-/// What is reported of a record that gets no ticket: in specs/ it is a `Told`, by `told_of`.
+/// What is reported of a record that gets no ticket. In specs/ it is a `Told`, by `told_of`.
 #[derive(Debug, Drop)]
 pub enum Notice {
     /// A message of a scanner: its lane, and its text.
     Message(u8, Vec<u8>),
-    /// The lane, if one was read from the record, and why it gets no ticket.
+    /// The lane, if the record has a valid one, and why it gets no ticket.
     Refused(Option<u8>, LineFault),
 }
 
 /// What a line means.
 #[derive(Debug, Drop)]
 pub enum Record {
-    /// It has no byte.
+    /// It is empty.
     Blank,
     /// A row of a lane.
     Row(u8, Runs),
-    /// A record that gives no row.
+    /// A record without a row.
     Notice(Notice),
 }
 
-/// The record of two fields. `read_fields` of answers/lines.rt reads them for the command `lanes`, whose refusal names
+/// The record of two fields. `read_fields` of answers/lines.rt reads them for the command `lanes`, whose refusal has
 /// no lane.
 fn read_row(pool: &mut RowPool, lanes: u8, lane: &[u8], widths: &[u8]) -> Result<Record, AllocError>
     ensures { IfOk result (ReadAs lanes (fields_meant lanes (lane.now ∷ widths.now ∷ []))) }
@@ -83,7 +83,7 @@ fn read_row(pool: &mut RowPool, lanes: u8, lane: &[u8], widths: &[u8]) -> Result
     }
 }
 
-/// The record of a lane and a message of a scanner. A wrong lane is refused as in `read_row`.
+/// The record of a lane and a message of a scanner. It refuses a wrong lane as `read_row` does.
 fn read_message(alloc: Global, lanes: u8, lane: &[u8], text: &[u8]) -> Result<Record, AllocError>
     ensures { IfOk result (ReadAs lanes (message_meant lanes lane.now text.now)) }
 {
@@ -93,7 +93,7 @@ fn read_message(alloc: Global, lanes: u8, lane: &[u8], text: &[u8]) -> Result<Re
     Ok(Record::Notice(Notice::Message(lane, text.to_vec(alloc)?)))
 }
 
-/// The record of a line that has 1 to `MOST_LINE` bytes. `read_line` of answers/lines.rt reads one that is no message.
+/// The record of a line of 1 to `MOST_LINE` bytes. `read_line` of answers/lines.rt reads one that is no message.
 fn read_record(
     alloc: Global,
     pool: &mut RowPool,
@@ -106,7 +106,7 @@ fn read_record(
         Some(comma) => {
             let lane = &line[..comma];
             let text = &line[comma + 1..];
-            // First, since a message may have commas.
+            // This comes first, since a message may have commas.
             if is_message(text) {
                 return read_message(alloc, lanes, lane, text);
             }
@@ -132,7 +132,7 @@ pub fn without_return(line: &[u8]) -> &[u8]
     }
 }
 
-/// What a line that was not cut means: `Blank`, if it has no byte besides a carriage return at its end.
+/// What a line means that was not cut: `Blank`, if it has no byte except a carriage return at its end.
 fn line_record(
     alloc: Global,
     pool: &mut RowPool,
@@ -145,14 +145,14 @@ fn line_record(
     if line.is_empty() {
         return Ok(Record::Blank);
     }
-    // `Lines` cuts a line only if too much of it is held when it reads: a whole line may be too long.
+    // `Lines` cuts a line only if it holds too much of it when it reads: a whole line may be too long.
     if line.len() > MOST_LINE {
         return Ok(Record::Notice(Notice::Refused(None, LineFault::InputSize)));
     }
     read_record(alloc, pool, lanes, line)
 }
 
-/// How many bytes are held of the next line, and its record. None if no line that has ended is held.
+/// How many bytes the next line has, and its record. None if no complete line is held.
 pub fn next_record(
     alloc: Global,
     pool: &mut RowPool,

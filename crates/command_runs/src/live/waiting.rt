@@ -1,4 +1,4 @@
-//! The rows of the lanes in a turn, and the deliveries that wait until it is written.
+//! The rows of the lanes in a turn, and their deliveries until the turn is written.
 ghost use Rattle.std.specs.Prelude.{◌<◌, IfOk, vec_len};
 ghost use Rattle.command_runs.specs.inner.Turns.{AreEnded, AreFresh, IsEnded, TakesNumber, TakesNumberOf};
 
@@ -13,11 +13,11 @@ pub struct Waiting {
     pub first: u32,
     /// The number of the next row.
     pub next: u32,
-    /// The deliveries that were brought in the turn, in the order of their numbers.
+    /// The deliveries of the turn so far, in the order of their numbers.
     pub deliveries: Vec<Delivery>,
 }
 
-/// The lanes, of which nothing has come.
+/// The lanes before anything has come.
 pub fn make_lanes(alloc: Global, count: u8) -> Result<Vec<Waiting>, AllocError>
     ensures { IfOk result (λ lanes. AreFresh count lanes.items) }
 {
@@ -32,8 +32,8 @@ pub fn make_lanes(alloc: Global, count: u8) -> Result<Vec<Waiting>, AllocError>
     Ok(lanes)
 }
 
-/// The lane's next number, for one more row, with room for its delivery. None if the lane has had all its numbers, as
-/// many as `serve_traffic` has tickets for it (`most_rows` in specs/live/Replies).
+/// The lane's next number, for one more row, with room for its delivery. None if the lane has used all its numbers,
+/// as many as `serve_traffic` has tickets for it (`most_rows` in specs/live/Replies).
 fn take_number(waiting: &mut Waiting) -> Result<Option<u32>, AllocError>
     ensures { TakesNumber result waiting.old waiting.new }
 {
@@ -56,7 +56,7 @@ pub fn next_number(lanes: &mut Vec<Waiting>, lane: u8) -> Result<Option<u32>, Al
     take_number(&mut lanes[usize::from(lane)])
 }
 
-/// Ends a lane's turn, once all its deliveries have been written. The memory of their rows goes to the pool.
+/// Ends a lane's turn after all its deliveries were written. The memory of their rows goes to the pool.
 fn end_lane(waiting: &mut Waiting, pool: &mut RowPool)
     ensures { IsEnded waiting.old waiting.new }
 {

@@ -1,4 +1,4 @@
-//! What texts are checked as, and the lines that answer them.
+//! The kinds of texts that `check` knows, and their lines.
 ghost use Rattle.std.specs.Prelude.{◌≡◌, codes};
 ghost use Rattle.element_core.specs.Elements.{hri};
 ghost use Rattle.element_core.specs.Lines.{IsElementsLine, line_text};
@@ -11,13 +11,13 @@ use message_core::{read_spelled, read_upce};
 /// What a text is checked as.
 #[derive(Clone, Copy, Debug, PartialEq, Eq)]
 pub enum CheckKind {
-    /// 1 to 17 digits that have no check digit yet.
+    /// 1 to 17 digits that lack a check digit.
     Digit,
     /// A GTIN of 8, 12, 13 or 14 digits.
     Gtin,
     /// UPC-E written as the digit 0, six digits and the check digit.
     Upce,
-    /// An element string, in which `^` stands for the separator.
+    /// An element string, in which `^` is the separator.
     Text,
 }
 
@@ -34,7 +34,7 @@ pub fn kind_named(name: &[u8]) -> Option<CheckKind>
     }
 }
 
-/// The line of the GTIN that UPC-E digits stand for, or why they stand for none.
+/// The line of the GTIN that UPC-E digits mean, or of their error.
 fn upce_line(text: &[u8]) -> Line
     ensures { IsUpceLine text.now (line_text result) }
 {
@@ -54,7 +54,7 @@ fn text_line(field: &[u8], year: Year) -> Line
     }
 }
 
-/// The line of a text of a kind, under a reference year.
+/// The line of a text of a kind, by a reference year.
 pub fn line_of(kind: CheckKind, text: &[u8], year: Year) -> Line
     ensures { IsLineAs year kind text.now (line_text result) }
 {

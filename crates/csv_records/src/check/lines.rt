@@ -1,4 +1,4 @@
-//! The records of `check`, and the lines that answer them.
+//! The records of `check`, and their lines.
 ghost use Rattle.std.specs.Prelude.{◌≡◌, ◌↔◌, true, false, IfErr, IfOk, IsErrOf, string_bytes};
 ghost use Rattle.csv_records.specs.check.Checks.{check_meaning, check_report};
 ghost use Rattle.csv_records.specs.input.Records.{Refuses, Takes};
@@ -12,7 +12,7 @@ use element_core::{Line, Year};
 use std::alloc::Global;
 use std::fmt::Write;
 
-/// The records that are checked under a reference year, each with a kind and a text.
+/// The records to be checked, each with a kind and a text, by a reference year.
 #[derive(Clone, Copy)]
 struct CheckRecords {
     year: Year,
@@ -36,10 +36,10 @@ impl Intake for CheckRecords {
     }
 }
 
-/// The lines that answer the texts that a source gives, in their order. The clauses are those of `read_input`.
+/// The lines for the texts of a source, in order. The clauses are those of `read_input`.
 ///
-/// A CSV record must have two fields: the name of a kind, which `kind_named` knows, and a text of this kind. A refused
-/// text is answered by its fault, and refuses no record.
+/// A CSV record must have two fields: the name of a kind, which `kind_named` knows, and a text of this kind. An error
+/// of the text is its line; it does not refuse the record.
 pub fn check_lines<S: Source>(
     alloc: Global,
     year: Year,

@@ -1,4 +1,4 @@
-//! Why records are not taken.
+//! Why records are refused.
 ghost use Rattle.std.specs.Prelude.{Some, ◌≡◌};
 ghost use Rattle.digits_core.specs.Refusals.{refusal_text};
 ghost use Rattle.csv_records.specs.input.Faults.{no_room, of_record, refusal_at, of_input, record_fault_text};
@@ -8,18 +8,18 @@ use element_core::ElementFault;
 use std::alloc::AllocError;
 use std::fmt;
 
-/// What is wrong with a record of the input. `lane_row`, `check_meaning` and `print_meaning` in specs/ say which record
-/// has which fault.
+/// What is wrong with a record of the input. `lane_row`, `check_meaning` and `print_meaning` in specs/ define which
+/// record has which error.
 #[derive(Clone, Copy, Debug, PartialEq, Eq)]
 pub enum RecordFault {
-    /// It has not two fields.
+    /// It does not have two fields.
     Csv,
-    /// Its first field is no kind of text that the command takes.
+    /// Its first field is no kind of text that the command knows.
     Kind,
-    /// Its first field is no lane, which is one or two digits that show a number below that of the lanes.
+    /// Its first field is no lane: one or two digits that are a number below the number of lanes.
     BadLane,
-    /// Its second field is no odd number of widths of one to five digits with one space between
-    /// them, or a width other than the first and the last is 0.
+    /// The number of widths in its second field is even, a width does not have one to five digits, they are not
+    /// separated by single spaces, or a width other than the first and the last is 0.
     BadRuns,
     /// Its widths have a sum above 65,535.
     TooWide,
@@ -30,7 +30,7 @@ pub enum RecordFault {
 }
 
 impl RecordFault {
-    /// What an output line reports of this fault of a record.
+    /// The error in an output line.
     pub fn refusal(self) -> Refusal
         ensures { refusal_text result.kind result.place ≡ record_fault_text self }
     {
@@ -55,20 +55,20 @@ impl fmt::Display for RecordFault {
     }
 }
 
-/// Why the records of an input are not taken: a fault of reading it (`InputFault`), or of a record.
+/// Why the records of an input are refused: an error of reading it (`InputFault`), or of a record.
 #[derive(Clone, Copy, Debug, PartialEq, Eq)]
 pub enum RecordsFault {
     /// A read failed.
     ReadFault,
     /// The input has more than `INPUT_LIMIT` bytes.
     InputSize,
-    /// The first record that has a fault: its index, from 0, and its fault.
+    /// The first faulty record: its index, from 0, and its error.
     Record(usize, RecordFault),
     /// An allocation failed.
     NoMemory,
 }
 
-// What a fault of a lower layer is for the records or for one record. The clauses `from_gives` name a definition of
+// The errors of lower layers as errors of the records or of one record. The clauses `from_gives` name a definition of
 // specs/input/Faults, or `NoMemory` itself.
 
 impl From<InputFault> for RecordsFault {
@@ -93,7 +93,7 @@ impl From<AllocError> for RecordsFault {
     }
 }
 
-/// Why a record is not taken.
+/// Why a record is refused.
 #[derive(Clone, Copy, Debug, PartialEq, Eq)]
 pub enum RecordRefusal {
     /// It has a fault.
@@ -119,7 +119,7 @@ impl From<AllocError> for RecordRefusal {
 }
 
 impl RecordRefusal {
-    /// The refusal of the input whose record at this index is refused.
+    /// The error of the input if its record at this index is refused.
     pub fn at(self, index: usize) -> RecordsFault
         ensures { result ≡ refusal_at index self }
     {

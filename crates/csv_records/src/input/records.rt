@@ -1,4 +1,4 @@
-//! The records of an input, which a command takes one after another.
+//! The records of an input, one after another.
 ghost use Rattle.std.specs.Prelude.{None, Some, [], ◌≡◌, ◌≢◌, ◌∷◌, ◌++◌, ◌↔◌, ◌≤◌, List, Option, length, true, false, IfErr, IfNone, IfSome, IsErrOf, OnOk};
 ghost use Rattle.csv.specs.Records.{fields_of};
 ghost use Rattle.csv_records.specs.input.Records.{AreItems, Meaning, Refuses, Takes, records_of};
@@ -12,18 +12,18 @@ use std::alloc::Global;
 use std::io::Cursor;
 
 /// How many bytes a command reads at most: `most_bytes` in specs/. The limit bounds the memory and the time of a
-/// command, which tests/sizes/run prints for inputs of this size. page/lists.js, python/noriladle/_lists.py,
+/// command; tests/sizes/run prints both for inputs of this size. page/lists.js, python/noriladle/_lists.py,
 /// tables/remedies.tsv, docs/HUB.md and tests/ repeat it.
 pub const INPUT_LIMIT: usize = 16_777_216;
 
 /// What a command makes of records.
 pub trait Intake {
-    /// What a record means to it.
+    /// The meaning of a record for it.
     type Item;
     /// What it makes of the items.
     type Made;
 
-    // A record means this item, or has this fault.
+    // A record means this item, or has this error.
     ghost means: { Self → Meaning Self.Item };
     // This is what it makes of these items.
     ghost makes: { Self → List Self.Item → Self.Made → Type 0 };
@@ -49,11 +49,11 @@ pub fn two_fields(fields: &ByteRecord) -> Option<(&[u8], &[u8])>
     Some((fields.get(0)?, fields.get(1)?))
 }
 
-/// The records of bytes, which are read one after another.
+/// The records of bytes, which it reads one after another.
 #[derive(Drop)]
 pub struct Records {
     reader: Reader<Cursor<Vec<u8>>>,
-    /// The record that was read last. It holds each record in turn, so that its memory is used again.
+    /// The record that was read last. Its memory is reused for each record.
     pub last: ByteRecord,
 }
 
@@ -64,11 +64,11 @@ impl Records {
     ghost use Rattle.csv_records.specs.input.Records.{Fields, records_of};
     ghost use Rattle.csv_records.specs.declared.input.fault.RecordRefusal.{RecordRefusal};
 
-    /// The records of these bytes, none of which was read.
+    /// The records of these bytes, before the first is read.
     pub fn new(alloc: Global, bytes: Vec<u8>) -> Records
         ensures { HasRead bytes.items result [] }
     {
-        // With `flexible`, a record may have any number of fields. One that has not two gets the fault `Csv`.
+        // With `flexible`, a record may have any number of fields. A record without exactly two gets the error `Csv`.
         let reader = ReaderBuilder::new()
             .has_headers(false)
             .flexible(true)
@@ -79,7 +79,7 @@ impl Records {
         }
     }
 
-    /// Reads the next record. False at the end.
+    /// Reads the next record. Returns false at the end.
     pub fn read(&mut self) -> Result<bool, RecordRefusal>
         requires { (bytes : List ℕ) × (rows : List Fields) × HasRead bytes self.old rows }
         ensures more { result ≡ Ok true → (bytes : List ℕ) (rows : List Fields) → HasRead bytes self.old rows
@@ -90,16 +90,17 @@ impl Records {
         match self.reader.read_byte_record(&mut self.last) {
             Ok(is_found) => Ok(is_found),
             Err(error) => match error.into_kind() {
-                // A `Cursor` never fails, so `Io` only needs some answer.
+                // A `Cursor` never fails, so any answer for `Io` will do.
                 ErrorKind::OutOfMemory | ErrorKind::Io(_) => Err(RecordRefusal::NoMemory),
-                // The other kinds are of UTF-8, of typed values and of numbers of fields, which `flexible` lets differ.
+                // The other kinds are about UTF-8, typed values and numbers of fields, which `flexible` allows to
+                // differ.
                 _ => unreachable!(),
             },
         }
     }
 }
 
-/// Takes the records of the bytes, in their order, up to the first with a fault.
+/// Takes the records of the bytes, in order, up to the first with an error.
 pub fn read_records<I: Intake>(
     alloc: Global,
     intake: &I,
@@ -113,7 +114,8 @@ pub fn read_records<I: Intake>(
     ensures refused { IfErr result (NamesFirst (I.means intake.now) (records_of bytes.items)) }
 {
     let mut records = Records::new(alloc, bytes);
-    // The bound is never reached: by the lemma `read_few` there is at most one record more than bytes.
+    // The loop never reaches the bound: by the lemma `read_few` there is at most one more record than there are
+    // bytes.
     'each: for index in 0..usize::MAX {
         match records.read() {
             Ok(true) => {}
@@ -128,7 +130,7 @@ pub fn read_records<I: Intake>(
     unreachable!()
 }
 
-/// Takes the records that a source gives. `check_lines` and `read_labels` have its clauses, each for its own intake.
+/// Takes the records of a source. `check_lines` and `read_labels` have its clauses, each for its own intake.
 pub fn read_input<I: Intake, S: Source>(
     alloc: Global,
     intake: &I,

@@ -1,4 +1,4 @@
-//! Records of lanes: the lane that a record names, and its row.
+//! Records of lanes: the lane, and its row.
 ghost use Rattle.std.specs.Prelude.{None, Some, Ok, Err, [], ◌≡◌, ◌<◌, ◌∷◌, ◌++◌, List, ℕ, false, IfNone, IfOk, IfSome};
 ghost use Rattle.csv.specs.Records.{fields_of};
 ghost use Rattle.csv_records.specs.lanes.Feeds.{is_lane, lanes_meaning};
@@ -13,7 +13,7 @@ use crate::lanes::widths::{number_in, read_runs};
 use csv::ByteRecord;
 use scan_core::{RowPool, Runs};
 
-/// The lane that a field names.
+/// The lane in a field.
 pub fn lane_in(field: &[u8], lanes: u8) -> Option<u8>
     ensures some { IfSome result (λ lane. number_in 2 field.now ≡ Some lane) }
     ensures low { IfSome result (λ lane. lane < lanes) }
@@ -42,8 +42,8 @@ pub fn read_record(
     Ok((lane, runs))
 }
 
-/// Reads the next record, and gives its lane and its row. None at the end. The clauses `more` and `end` are those of
-/// `Records::read`, with what `read_record` says of the fields.
+/// Reads the next record and returns its lane and its row. None at the end. The clauses `more` and `end` are those of
+/// `Records::read`, with the clauses of `read_record` about the fields.
 pub fn next_row(
     pool: &mut RowPool,
     lanes: u8,

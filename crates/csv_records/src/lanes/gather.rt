@@ -1,4 +1,4 @@
-//! The bytes of a vector at the set bits of a mask, side by side.
+//! Collects the bytes of a vector at the set bits of a mask.
 
 ghost use Rattle.std.specs.Prelude.{◌≡◌, ◌<◌, ◌++◌, ◌%◌, ◌/◌, map};
 ghost use Rattle.std.specs.Simd.Lanes.{digits_l};
@@ -6,7 +6,7 @@ ghost use Rattle.csv_records.specs.inner.Kept.{entry, look};
 
 use std::simd::prelude::*;
 
-/// For each mask of eight bits the places of its set bits, a byte each, the lowest first, and then bytes of 128, which
+/// For each mask of eight bits, the places of its set bits, one byte each, the lowest first; then bytes of 128, which
 /// name no lane. tables/lookups makes the table.
 #[rattlefmt::skip]
 static PLACES: [u64; 256] = [

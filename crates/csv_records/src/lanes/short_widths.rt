@@ -1,8 +1,8 @@
-//! Reads the widths of a field sixteen bytes at a time, if each has one digit or two, as in most rows.
+//! Reads the widths of a field sixteen bytes at a time, if each has one or two digits, as in most rows.
 //!
-//! A width stands before each space. In each lane of a vector, the two bytes before it are read as a number, and the
-//! lanes at spaces are put side by side. So no branch waits for the length of a width. A field with any other byte or
-//! word is not read here: `read_widths` reads it word by word, and finds its fault.
+//! A width is before each space. In each lane of a vector, it reads the two bytes before the lane as a number, and
+//! then collects the lanes at spaces. So no branch waits for the length of a width. A field with any other byte or
+//! word is left to `read_widths`, which reads it word by word and finds its error.
 ghost use Rattle.std.specs.Prelude.{◌≡◌, ◌==◌, ◌<◌, ◌≤◌, ◌+◌, ◌/◌, ◌++◌, ◌-◌, ◌∷◌, Bool, false, drop, get_or, length, List, map, IfSome, [], replicate, take, true, Ok, ℕ};
 ghost use Rattle.std.specs.Simd.Lanes.{Each1, mask_l};
 ghost use Rattle.std.specs.List.{list_all};
@@ -15,7 +15,7 @@ use crate::lanes::gather::gather;
 use std::alloc::AllocError;
 use std::simd::prelude::*;
 
-/// The longest field that is read in this way. Its widths need less memory than a pool of rows keeps.
+/// The longest field that it reads. Its widths need less memory than a pool of rows keeps.
 const LONGEST: usize = 1_920;
 
 /// The lanes of `now` moved by one place, by two or by three, and the last of `before` in front of them.
@@ -63,7 +63,8 @@ fn digits_of(bytes: u8x16) -> u8x16
     bytes - u8x16::splat(b'0')
 }
 
-/// In each lane the width that the digits before it show: the last, and ten times the one before it, if it is a digit.
+/// In each lane, the width of the digits before it: the last digit, plus ten times the one before it if that is a
+/// digit.
 #[inline(always)]
 fn values_of(before: u8x16, digits: u8x16) -> u8x16
     ensures { result ≡ lane_values (get_or before 14 0) (get_or before 15 0) digits }
@@ -77,7 +78,7 @@ fn values_of(before: u8x16, digits: u8x16) -> u8x16
     one + ((four + four) + twice)
 }
 
-/// 255 in each lane that is a digit, or a space behind one digit or two, and else 0.
+/// 255 in each lane that is a digit, or a space behind one or two digits, else 0.
 #[inline(always)]
 fn fine_lanes(before: u8x16, digits: u8x16, bytes: u8x16) -> u8x16
     ensures { (prior : List ℕ) → before ≡ map digit_of prior → Each1 (λ b. b < 256) prior → digits ≡ map digit_of bytes
@@ -138,8 +139,8 @@ fn upper_half(lanes: u8x16) -> u16x8
     lanes.cast::<u16>().extract::<8, 8>()
 }
 
-/// Puts the lanes at the set bits of a mask into their places from `at` on, and says how many they are. What it writes
-/// behind them, up to 16 places, has no meaning.
+/// Writes the lanes at the set bits of a mask from `at` on, and returns how many they are. Up to 16 places behind
+/// them get values without meaning.
 #[inline(always)]
 fn put_lanes(values: u8x16, mask: u64, widths: &mut [u16], at: usize) -> usize
     requires room { at + 16 ≤ length widths.old }
@@ -155,8 +156,8 @@ fn put_lanes(values: u8x16, mask: u64, widths: &mut [u16], at: usize) -> usize
     first + (mask / 256).count_ones() as usize
 }
 
-/// Puts the widths that end in a block into their places from `at` on, and says how many they are, unless the block has
-/// a byte that is not fine. `before` has the digits of the block before it.
+/// Writes the widths that end in a block from `at` on, and returns how many they are. None if the block has a byte
+/// that is not fine. `before` has the digits of the block before it.
 #[inline(always)]
 fn put_block(before: u8x16, bytes: u8x16, widths: &mut [u16], at: usize) -> Option<usize>
     requires room { at + 16 ≤ length widths.old }
@@ -187,14 +188,14 @@ fn last_block(text: &[u8]) -> [u8; 16]
     block
 }
 
-/// Puts the widths of a field into the first places, and says how many they are, if each has one digit or two.
+/// Writes the widths of a field to the first places, and returns how many they are, if each has one or two digits.
 fn put_widths(field: &[u8], widths: &mut [u16]) -> Option<usize>
     requires room { length field.now / 2 + 16 ≤ length widths.old }
     ensures same { length widths.new ≡ length widths.old }
     ensures put { IfSome result (λ count. (are_widths (words_of field.now) ≡ true) × (take count widths.new ≡ widths_in field.now)
         × (has_wide (widths_in field.now) ≡ false)) }
 {
-    // No digit stands before the first block.
+    // There is no digit before the first block.
     let mut before = digits_of(u8x16::splat(b' '));
     let mut at = 0;
     let mut done = 0;
@@ -215,7 +216,7 @@ fn put_widths(field: &[u8], widths: &mut [u16]) -> Option<usize>
     Some(at + count)
 }
 
-/// Reads the widths of a field, if it is not long and each has one digit or two. Else there are none.
+/// Reads the widths of a field, if it is not long and each width has one or two digits. Otherwise there are none.
 pub fn read_short_widths(widths: &mut Vec<u16>, field: &[u8]) -> Result<bool, AllocError>
     ensures read { result ≡ Ok true → (are_widths (words_of field.now) ≡ true) × (widths.new.items ≡ widths_in field.now) × (has_wide (widths_in field.now) ≡ false) }
     ensures none { result ≡ Ok false → widths.new.items ≡ [] }

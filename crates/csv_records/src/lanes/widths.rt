@@ -10,7 +10,7 @@ use crate::input::fault::{RecordFault, RecordRefusal};
 use crate::lanes::short_widths::read_short_widths;
 use scan_core::{RowPool, RunFault, Runs};
 
-/// The number that a text of one to `most` digits shows. `most` is at most 5, since the proof bounds the number by
+/// The number of a text of one to `most` digits. `most` is at most 5, since the proof bounds the number by
 /// `front_small`, the lemma for widths. The loop of `width_of_any_length` reads digits in the same way.
 pub fn number_in(text: &[u8], most: usize) -> Option<u32>
     requires { most ≤ 5 }
@@ -29,7 +29,7 @@ pub fn number_in(text: &[u8], most: usize) -> Option<u32>
     Some(number)
 }
 
-/// The width that begins a text, found byte by byte, with the clauses of `first_width`. It reads digits as `number_in`
+/// The width at the front of a text, byte by byte, with the clauses of `first_width`. It reads digits as `number_in`
 /// does.
 fn width_of_any_length(text: &[u8]) -> Option<(u32, &[u8])>
     ensures some { IfSome result (λ width. IsFirstWidth text.now width.0 width.1.now) }
@@ -52,15 +52,15 @@ fn width_of_any_length(text: &[u8]) -> Option<(u32, &[u8])>
     Some((width, &[]))
 }
 
-/// The width that begins a text, up to its first space or its end, and the text after this space, which is empty if
-/// there is no space.
+/// The width at the front of a text, up to its first space or its end, and the text after this space, which is empty
+/// if there is no space.
 fn first_width(text: &[u8]) -> Option<(u32, &[u8])>
     ensures some { IfSome result (λ width. IsFirstWidth text.now width.0 width.1.now) }
     ensures small { IfSome result (λ width. width.0 < 100000) }
     ensures none { IfNone result (are_widths (words_of text.now) ≡ false) }
 {
     match text {
-        // Most widths have one digit or two. `width_of_any_length` would find these too, but slower.
+        // Most widths have one or two digits. `width_of_any_length` would find these too, but slower.
         [digit, space, after @ ..] if *space == b' ' && digit.is_ascii_digit() => {
             Some((u32::from(*digit - b'0'), after))
         }
@@ -75,7 +75,8 @@ fn first_width(text: &[u8]) -> Option<(u32, &[u8])>
     }
 }
 
-/// How many spaces a text of at most 255 bytes has. One byte counts them, so that many are added at once.
+/// How many spaces a text of at most 255 bytes has. It counts them in one byte, so that the processor adds many at
+/// once.
 fn count_spaces(text: &[u8]) -> u8
     requires few { length text.now ≤ 255 }
     ensures { result ≡ count_by (λ b. b == 32) text.now }
@@ -87,7 +88,7 @@ fn count_spaces(text: &[u8]) -> u8
     spaces
 }
 
-/// How many words the spaces of a field make.
+/// How many words a field has, by its spaces.
 fn count_words(field: &[u8]) -> usize
     ensures { result ≡ length (words_of field.now) }
 {
@@ -101,7 +102,7 @@ fn count_words(field: &[u8]) -> usize
 /// A zero and a space, as the bytes of a number: the low one first.
 const ZERO_AND_SPACE: u16 = 0x2030;
 
-/// The width that a digit before a space shows, and above 9 if it is no digit or no space. One subtraction tests both.
+/// The width of a digit before a space; above 9 if it is no digit or no space follows. One subtraction tests both.
 fn width_of_digit(digit: u8, space: u8) -> u16
     ensures shown { result ≤ 9 → (is_ascii_digit digit ≡ true) × (space ≡ 32) × (result ≡ digit - 48) }
     ensures each { is_ascii_digit digit ≡ true → space ≡ 32 → result ≡ digit - 48 }
@@ -109,8 +110,8 @@ fn width_of_digit(digit: u8, space: u8) -> u16
     u16::from_le_bytes([digit, space]).wrapping_sub(ZERO_AND_SPACE)
 }
 
-/// The first `N` widths of a text, if each is one digit before a space. The loop has no early end, so that the
-/// processor looks at many at once.
+/// The first `N` widths of a text, if each is one digit before a space. The loop has no early exit, so that the
+/// processor does many at once.
 fn digits<const N: usize>(text: &[u8]) -> Option<[u16; N]>
     ensures begins { IfSome result (BeginsWithDigits text.now) }
     ensures few { IfSome result (λ widths. (length widths ≡ N) × (2 * N ≤ length text.now)) }
@@ -129,8 +130,8 @@ fn digits<const N: usize>(text: &[u8]) -> Option<[u16; N]>
     each.then_some(widths)
 }
 
-/// The widths that a field shows, read word by word into empty memory, each above 65,535 as 65,535 to fit its `u16`, and
-/// whether there is one above. The clause `refused` is that of `read_runs`.
+/// The widths of a field, read word by word into empty memory, and whether one of them is above 65,535. It stores
+/// these as 65,535, to fit a `u16`. The clause `refused` is that of `read_runs`.
 fn read_any_widths(room: Vec<u16>, field: &[u8]) -> Result<(Vec<u16>, bool), RecordRefusal>
     requires empty { room.items ≡ [] }
     ensures words { OnOk result (are_widths (words_of field.now) ≡ true) }
@@ -145,8 +146,8 @@ fn read_any_widths(room: Vec<u16>, field: &[u8]) -> Result<(Vec<u16>, bool), Rec
     let mut rest = field;
     let mut is_wide = false;
     'words: while widths.len() < count {
-        // Eight or two widths of one digit are read at once, each with its space. Eight `u16` fill a vector of
-        // 128 bits.
+        // It reads eight or two widths of one digit at once, each with its space. Eight `u16` fill a vector of 128
+        // bits.
         rest = if let Some(eight) = digits::<8>(rest) {
             widths.extend_from_slice(&eight)?;
             &rest[16..]
@@ -165,7 +166,7 @@ fn read_any_widths(room: Vec<u16>, field: &[u8]) -> Result<(Vec<u16>, bool), Rec
     Ok((widths, is_wide))
 }
 
-/// The widths that a field shows, as `read_any_widths` reads them.
+/// The widths of a field, as `read_any_widths` reads them.
 fn read_widths(pool: &mut RowPool, field: &[u8]) -> Result<(Vec<u16>, bool), RecordRefusal>
     ensures words { OnOk result (are_widths (words_of field.now) ≡ true) }
     ensures widths { IfOk result (λ read. read.0.items ≡ capped (widths_in field.now)) }
@@ -180,7 +181,7 @@ fn read_widths(pool: &mut RowPool, field: &[u8]) -> Result<(Vec<u16>, bool), Rec
     read_any_widths(widths, field)
 }
 
-/// The row that a field shows.
+/// The row of a field.
 pub fn read_runs(pool: &mut RowPool, field: &[u8]) -> Result<Runs, RecordRefusal>
     ensures ok { IfOk result (λ runs. runs ≡ widths_in field.now) }
     ensures taken { OnOk result (field_fault field.now ≡ None) }
@@ -190,7 +191,7 @@ pub fn read_runs(pool: &mut RowPool, field: &[u8]) -> Result<Runs, RecordRefusal
     let (widths, is_wide) = read_widths(pool, field)?;
     match Runs::from_widths(pool, widths) {
         Ok(runs) => {
-            // `BadRuns` comes before `TooWide`, so a wide width is reported only here.
+            // `BadRuns` comes before `TooWide`, so only here is a wide width an error.
             if is_wide {
                 Err(RecordRefusal::Record(RecordFault::TooWide))
             } else {

@@ -1,4 +1,4 @@
-//! The lines of labels, which `print` writes instead of images if it is asked for text.
+//! The lines of labels, which `print --text` writes instead of images.
 ghost use Rattle.std.specs.Prelude.{◌≡◌, ◌++◌, ◌<◌, IfOk, OnOk, string_bytes};
 ghost use Rattle.csv_records.specs.print.Labels.{label_hri, label_line, label_lines};
 

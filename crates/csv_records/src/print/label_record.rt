@@ -1,4 +1,4 @@
-//! Labels as records give them: a kind and a text.
+//! Labels in records: a kind and a text.
 ghost use Rattle.std.specs.Prelude.{None, Some, ◌≡◌, IfErr, IfOk, OnOk};
 ghost use Rattle.csv.specs.Records.{fields_of};
 ghost use Rattle.digits_core.specs.Digits.{digits_of, padded};
@@ -13,7 +13,7 @@ use element_core::Year;
 use message_core::read_spelled;
 use sheet_core::{Label, LabelKind};
 
-/// The GTIN whose digits a field has. A fault of the digits becomes one of the record.
+/// The GTIN whose digits a field has. An error of the digits becomes one of the record.
 fn gtin_in(field: &[u8]) -> Result<Gtin, RecordFault>
     ensures ok { IfOk result (λ gtin. gtin ≡ padded (digits_of field.now)) }
     ensures taken { OnOk result (gtin_fault field.now ≡ None) }
@@ -22,7 +22,7 @@ fn gtin_in(field: &[u8]) -> Result<Gtin, RecordFault>
     Gtin::read(field).map_err(RecordFault::Digits)
 }
 
-/// The label of a field, as one of this kind.
+/// The label of a field, of this kind.
 fn label_as(kind: LabelKind, field: &[u8], year: Year) -> Result<Label, RecordFault>
     ensures { IsLabelAs year kind field.now result }
 {

@@ -12,7 +12,7 @@ use element_core::Year;
 use sheet_core::Label;
 use std::alloc::Global;
 
-/// The records that are printed, element strings under a reference year.
+/// The records to be printed. Element strings follow a reference year.
 #[derive(Clone, Copy)]
 struct LabelRecords {
     year: Year,
@@ -36,10 +36,10 @@ impl Intake for LabelRecords {
     }
 }
 
-/// The labels that a source gives, in their order. The clauses are those of `read_input`.
+/// The labels of a source, in order. The clauses are those of `read_input`.
 ///
-/// The source gives CSV records of two fields: a kind, `ean13`, `upca`, `ean8`, `upce` or `itf14` with a GTIN,
-/// or `gs1128` with an element string. tables/kinds writes the kinds with a GTIN.
+/// The source gives CSV records of two fields: a kind, `ean13`, `upca`, `ean8`, `upce` or `itf14` with a GTIN, or
+/// `gs1128` with an element string. tables/kinds writes the kinds with a GTIN.
 pub fn read_labels<S: Source>(
     alloc: Global,
     year: Year,

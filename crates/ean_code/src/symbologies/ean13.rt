@@ -1,4 +1,4 @@
-//! EAN-13, and UPC-A as one (ISO/IEC 15420).
+//! EAN-13, which includes UPC-A (ISO/IEC 15420).
 ghost use Rattle.std.specs.Prelude.{◌≡◌, ◌↔◌, ℕ, List, IfNone, IfSome, IsSome, drop};
 ghost use Rattle.digits_core.specs.Digits.{AreAsciiDigits, digits_of, padded};
 ghost use Rattle.ean_code.specs.inner.Parts.{IsTextOf};

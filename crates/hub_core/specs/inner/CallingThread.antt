@@ -78,7 +78,7 @@ pub record WasServed {T W B : Type 0} (Came : History T) (has_ended : T → Bool
   pub came : Came start now (given_to lanes held) (polled_by_each lanes)
   pub done : ended ≡ Done → (has_ended now ≡ true) × HavePolledAll lanes × (held ≡ None)
 
--- all workers' seats of a hub, of which one may be apart, and there is room for it
+-- all workers' seats of a hub; one may be apart, and there is room for it
 pub record AreWorkers (h : Hub) (workers : Vec WorkerSeat Global) (apart : Option WorkerSeat) : Type 0 where
   pub are : All (IsWorkerOf h) workers.items
   pub own : IfSome apart (IsWorkerOf h)

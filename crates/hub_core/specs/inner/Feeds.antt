@@ -1,4 +1,4 @@
--- Lanes of which no row is left: for `Feeds::next_from`.
+-- Lanes without rows that are left: for `Feeds::next_from`.
 use Rattle.std.specs.Prelude.{◌≡◌, ◌<◌, ◌≤◌, ℕ, List, [], length, slice_index_or}
 
 -- of the lanes from `first` on, before `last`, no row is left

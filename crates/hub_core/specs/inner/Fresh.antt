@@ -31,7 +31,7 @@ module _ {Q R A B : Type 0} where
   abbrev pub IsNewWorker : Slotted (Option Plain) (Doing Plain Trace) Q A → Slotted (Option Plain) (Doing Plain Trace) R B → WorkerSeat → Type 0
   IsNewWorker jobs results s = IsPassOf jobs s.takes × IsPassOf results s.posts × HasWorkedNothing s
 
--- so many lanes that have done nothing, by lane, with a ring for each of this capacity
+-- this many lanes that have done nothing, by lane, each with a ring of this capacity
 pub record AreNewLanes {Q A : Type 0} (jobs : Slotted (Option Plain) (Doing Plain Trace) Q A) (count capacity : ℕ) (lanes : List LaneSeat)
     (ends : List PushEnd) : Type 0 where
   pub numbers : numbers_of lanes ≡ range_with_len 0 count
@@ -39,7 +39,7 @@ pub record AreNewLanes {Q A : Type 0} (jobs : Slotted (Option Plain) (Doing Plai
   pub rings : (length ends ≡ count) × All (IsUnsent capacity) ends
   pub paired : All (IsPairedIn ends) lanes
 
--- so many workers of these queues that have done nothing
+-- this many workers of these queues that have done nothing
 pub record AreNewWorkers {Q R A B : Type 0} (jobs : Slotted (Option Plain) (Doing Plain Trace) Q A) (results : Slotted (Option Plain) (Doing Plain Trace) R B)
     (count : ℕ) (workers : List WorkerSeat) : Type 0 where
   pub number : length workers ≡ count

@@ -3,6 +3,6 @@ use Rattle.std.specs.Prelude.{◌≡◌, ◌≤◌, ℕ, [], vec_capacity, vec_l
 use Rattle.std.specs.declared.vec.Vec.{Vec}
 use Rattle.std.proofs.Common.{Global}
 
--- an empty list with room for so many
+-- an empty list with room for this many
 abbrev pub IsRoomFor : {X : Type 0} → ℕ → Vec X Global → Type 0
 IsRoomFor n room = (room.items ≡ []) × (vec_len room ≡ 0) × (n ≤ vec_capacity room)

@@ -18,7 +18,7 @@ KnowsQueue v items = OneForOne v.pushed v.popped items
 abbrev pub HasShares : {T Q A : Type 0} → Slotted (Option T) (Doing T Trace) Q A → ℕ → Pass T Trace → Type 0
 HasShares q n p = IsPassOf q p × (n < shares_of p)
 
--- so many shares were cut off the pass
+-- this many shares were split off the pass
 abbrev pub IsCut : ℕ → Trace → Trace → Type 0
 IsCut n v w = w ≡ trace (v.shares - n) v.pushed v.popped
 

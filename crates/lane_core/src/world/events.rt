@@ -1,4 +1,4 @@
-//! `World::step`, and for each event a function, whose clauses are those of `step` for that event alone.
+//! `World::step`, and a function for each event. Its clauses are those of `step` for this event.
 ghost use Rattle.std.specs.Prelude.{◌≡◌, IfErr, IfOk, OnErr, false, length, true};
 ghost use Rattle.lane_core.specs.Contents.{IsEnabled, Steps, takes_memory};
 
@@ -13,10 +13,9 @@ use scan_core::Runs;
 use std::mem;
 
 impl World {
-    /// Does the event: true if it was done, false if it was disabled and changed nothing.
+    /// Performs the event. Returns true if it did, false if the event was not possible and changed nothing.
     ///
-    /// An event that the machine allows comes back if memory for it was refused; nothing has
-    /// changed then.
+    /// If memory for a possible event is refused, it returns the event, and nothing has changed.
     pub fn step(&mut self, event: Event) -> Result<bool, Event>
         ensures steps { IfOk result (λ done. Steps self.old event done self.new) }
         ensures disabled { IfOk result (λ done. done ≡ false → self.new ≡ self.old) }
@@ -45,7 +44,7 @@ impl World {
         }
     }
 
-    /// Does `Event::Submit`; false if the lane is not there, is closed or has issued all its tickets.
+    /// `Event::Submit`. False if the lane does not exist, is closed or has issued all its tickets.
     fn submit(&mut self, lane: u8, row: Runs) -> Result<bool, Event>
         ensures steps { IfOk result (λ done. Steps self.old (Event.Submit lane row) done self.new) }
         ensures disabled { IfOk result (λ done. done ≡ false → self.new ≡ self.old) }
@@ -83,7 +82,7 @@ impl World {
         }
     }
 
-    /// Does `Event::Take`; false if the worker is not there or has a job, or if none is queued.
+    /// `Event::Take`. False if the worker does not exist or has a job, or if no job is queued.
     fn take(&mut self, worker: u32) -> bool
         ensures steps { Steps self.old (Event.Take worker) result self.new }
         ensures disabled { result ≡ false → self.new ≡ self.old }
@@ -103,7 +102,7 @@ impl World {
         true
     }
 
-    /// Does `Event::Post`; false if the worker is not there or has no job.
+    /// `Event::Post`. False if the worker does not exist or has no job.
     fn post(&mut self, worker: u32) -> Result<bool, NoMemory>
         ensures steps { IfOk result (λ done. Steps self.old (Event.Post worker) done self.new) }
         ensures disabled { IfOk result (λ done. done ≡ false → self.new ≡ self.old) }
@@ -120,14 +119,14 @@ impl World {
         }
         self.results.reserve(1)?;
         let Some(job) = mem::replace(&mut self.workers[at], None) else {
-            // Never: it was there above.
+            // Never happens: it was there above.
             return Ok(false);
         };
         self.results.push_back_reserved(decode(job));
         Ok(true)
     }
 
-    /// Does `Event::Collect`; false if no delivery is queued.
+    /// `Event::Collect`. False if no delivery is queued.
     fn collect(&mut self) -> Result<bool, NoMemory>
         ensures steps { IfOk result (λ done. Steps self.old Event.Collect done self.new) }
         ensures disabled { IfOk result (λ done. done ≡ false → self.new ≡ self.old) }
@@ -144,12 +143,12 @@ impl World {
                 self.results.push_front_reserved(delivery);
                 Err(NoMemory)
             }
-            // Never: by the invariant one of the lanes issued its ticket, once.
+            // Never happens: by the invariant, one of the lanes issued its ticket, once.
             Err(TakeFault::Stranger(_)) => unreachable!(),
         }
     }
 
-    /// Does `Event::Hand`; false if the lane is not there or its next number does not wait.
+    /// `Event::Hand`. False if the lane does not exist or the delivery of its next number does not wait.
     fn hand(&mut self, lane: u8) -> Result<bool, NoMemory>
         ensures steps { IfOk result (λ done. Steps self.old (Event.Hand lane) done self.new) }
         ensures disabled { IfOk result (λ done. done ≡ false → self.new ≡ self.old) }
@@ -167,14 +166,14 @@ impl World {
         let outbox = &mut self.lanes[at].handed;
         outbox.reserve(1)?;
         let Some(delivery) = self.deliverer.take_next(lane) else {
-            // Never: it waited above.
+            // Never happens: it waited above.
             return Ok(false);
         };
         outbox.push_reserved(delivery);
         Ok(true)
     }
 
-    /// Does `Event::Poll`; false if the lane is not there or its outbox is empty.
+    /// `Event::Poll`. False if the lane does not exist or its outbox is empty.
     fn poll(&mut self, lane: u8) -> bool
         ensures steps { Steps self.old (Event.Poll lane) result self.new }
         ensures disabled { result ≡ false → self.new ≡ self.old }
@@ -192,7 +191,7 @@ impl World {
         true
     }
 
-    /// Does `Event::Close`; false if the lane is not there or is closed.
+    /// `Event::Close`. False if the lane does not exist or is closed.
     fn close(&mut self, lane: u8) -> bool
         ensures steps { Steps self.old (Event.Close lane) result self.new }
         ensures disabled { result ≡ false → self.new ≡ self.old }

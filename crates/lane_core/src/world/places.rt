@@ -26,7 +26,7 @@ fn is_result_of(results: &VecDeque<Delivery>, ticket: Ticket) -> bool
     results.iter().any(|delivery| delivery.ticket() == ticket)
 }
 
-/// Whether the job is there and has the ticket.
+/// Whether there is a job and it has the ticket.
 fn has_ticket(job: &Option<Job>, ticket: Ticket) -> bool
     ensures { result ≡ is_among ticket.lane ticket.number (option_to_list job.now) }
 {
@@ -72,7 +72,7 @@ impl World {
         if is_result_of(&self.results, ticket) {
             return Some(Place::ResultQueue);
         }
-        // It is in one place, as the law `tickets_once` says, and no other is left.
+        // It is in exactly one place, by the law `tickets_once`, and only this one is left.
         Some(Place::Waiting)
     }
 }

@@ -81,7 +81,7 @@ BytesTell r left (Err NotP4) = r ≡ (Err NotP4, [])
 BytesTell r left (Err PbmHeader) = r ≡ (Err PbmHeader, [])
 BytesTell r left (Err PbmSize) = r ≡ (Err PbmSize, [])
 
--- a reader gave bytes that tell this answer
+-- a reader gave bytes that determine this answer
 pub record ReadsBytes {A : Type 0} (told : List ℕ → Result A PbmFault × List ℕ) (old new : Option (List ℕ)) (answer : Result A PbmFault) : Type 0 where
   pub bytes : List ℕ
   pub consumed : Consumes old new bytes

@@ -112,7 +112,7 @@ abbrev pub RefusesImage : PbmFault → List ℕ → Type 0
 RefusesImage Truncated bytes = RefusesHeader Truncated bytes ⊎ EndsInRows bytes
 RefusesImage fault bytes = RefusesHeader fault bytes
 
--- images and then one that is refused, of which something is there; or a byte after 4,096 images
+-- images and then one that is refused and has at least one byte; or a byte after 4,096 images
 pub record RefusesFile (fault : PbmFault) (bytes : List ℕ) : Type 0 where
   pub images : List (List ℕ)
   pub sheets : List Bitmap

@@ -25,7 +25,7 @@ fn is_digit(byte: u8) -> bool
     b'0' <= byte && byte <= b'9'
 }
 
-/// A number with one more digit; what is above 65,535 stays so.
+/// A number with one more digit. A number above 65,535 stays above it.
 fn grown(number: u32, digit: u8) -> u32
     requires digit { 48 ≤ digit }
     requires small { number ≤ 65536 }
@@ -35,7 +35,7 @@ fn grown(number: u32, digit: u8) -> u32
     (10 * number + u32::from(digit - b'0')).min(65_536)
 }
 
-/// The number as a width or a height, if it may be one.
+/// The number as a width or a height, if it is within the limits.
 fn as_size(number: u32) -> Option<u16>
     ensures some { IfSome result (λ n. (n ≡ number) × (is_size number ≡ true)) }
     ensures none { IfNone result (is_size number ≡ false) }
@@ -47,7 +47,7 @@ fn as_size(number: u32) -> Option<u16>
     }
 }
 
-/// What a byte after a digit of the width does.
+/// The step for a byte after a digit of the width.
 fn width_step(number: u32, byte: u8) -> Step
     requires { number ≤ 65536 }
     ensures value { result ≡ number_step None number byte }
@@ -68,7 +68,7 @@ fn width_step(number: u32, byte: u8) -> Step
     Step::Goes(State::Blanks(Some(width), true))
 }
 
-/// What a byte after a digit of the height does.
+/// The step for a byte after a digit of the height.
 fn height_step(width: u16, number: u32, byte: u8) -> Step
     requires width { is_size width ≡ true }
     requires number { number ≤ 65536 }
@@ -87,7 +87,7 @@ fn height_step(width: u16, number: u32, byte: u8) -> Step
     Step::Done(Size { width, height })
 }
 
-/// What a byte does in the blanks before a number.
+/// The step for a byte in the blanks before a number.
 fn blank_step(width: Option<u16>, some: bool, byte: u8) -> Step
     requires { IsTrue (may_be_width width) }
     ensures value { result ≡ header_step (State.Blanks width some) byte }
@@ -104,7 +104,7 @@ fn blank_step(width: Option<u16>, some: bool, byte: u8) -> Step
     }
 }
 
-/// What a byte does in a header that has come so far.
+/// The step for a byte of a header that has come so far.
 pub fn step(state: State, byte: u8) -> Step
     requires { IsTrue (is_reached state) }
     ensures value { result ≡ header_step state byte }

@@ -1,4 +1,4 @@
-//! Prints labels as PBM images, with one row of dots in memory.
+//! Prints labels as PBM images. It holds one row of dots in memory.
 ghost use Rattle.std.specs.Prelude.{◌≡◌, ◌≢◌, ◌*◌, ◌<◌, ◌≤◌, ◌↔◌, [], ℕ, List, true, false, IfErr, IsErr, IsErrOf, OnErr, OnOk, length};
 ghost use Rattle.std.specs.Io.KnownBytes.{Appends};
 ghost use Rattle.std.specs.List.{AllByRecursion, AllZip};
@@ -31,7 +31,7 @@ fn write_rows<W: Sink>(line: &[u8], count: u16, sink: &mut W) -> Result<(), Fail
     Ok(())
 }
 
-/// Writes the dot rows of a row of cells. `line` is one of them, and what it holds before is of no account.
+/// Writes the dot rows of a row of cells. `line` is its buffer for one of them; its content does not matter.
 fn write_band<W: Sink>(
     line: &mut [u8],
     grid: &Grid,
@@ -55,7 +55,7 @@ fn write_band<W: Sink>(
     write_rows(line, grid.module_dots, sink)
 }
 
-/// Writes the image of the sheet of the first labels, as many as it has cells.
+/// Writes the image of a sheet with the first labels, as many as it has cells.
 fn write_sheet<W: Sink>(
     line: &mut [u8],
     labels: &[Label],
@@ -106,13 +106,13 @@ fn write_sheets<W: Sink>(
     Ok(())
 }
 
-/// Writes labels as PBM images of the sheets that they fill in a grid (netpbm, pbm(5)): the bytes that
-/// `write_pbm` writes of what `print_sheets` gives. It takes memory for one row of dots alone, and writes
-/// row by row, so a sink to which each write is dear is to have a buffer.
+/// Writes labels as PBM images of the sheets that they fill in a grid (netpbm, pbm(5)): the bytes that `write_pbm`
+/// writes for the sheets of `print_sheets`. It takes memory for only one row of dots, and writes row by row: if
+/// writes are expensive, put a buffer in front of the sink.
 ///
-/// All labels are looked at first, in their order, then the memory is taken, and then bytes go out. So
-/// after `LabelKind` and `LabelWidth`, which are those of `print_sheets`, and after `NoMemory` nothing was
-/// written; after `WriteFault` a prefix of the bytes went out. Of no labels nothing is written.
+/// It checks all labels in order, then takes the memory, and then writes. So after `LabelKind` and `LabelWidth`, the
+/// errors of `print_sheets`, and after `NoMemory`, nothing was written; after `WriteFault`, a prefix of the bytes
+/// was. For no labels it writes nothing.
 pub fn print_pbm<W: Sink>(
     alloc: Global,
     labels: &[Label],

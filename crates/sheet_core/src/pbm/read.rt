@@ -13,7 +13,7 @@ use crate::sheet::{Sheet, stride};
 use digits_core::{Failed, NoMemory, Source};
 use std::alloc::Global;
 
-/// How many bytes of an image are asked for at a time, at most.
+/// How many bytes of an image it reads at a time, at most.
 const PIECE: usize = 65_536;
 
 /// The next byte, or none at the end.
@@ -32,7 +32,7 @@ fn next<R: Source>(reader: &mut R) -> Result<Option<u8>, Failed>
     Ok(Some(buffer[0]))
 }
 
-/// The size in a header that begins with this byte. No byte after the one that decides is read.
+/// The size in a header that begins with this byte. It reads no byte after the one that decides.
 fn read_header<R: Source>(reader: &mut R, first: u8) -> Result<Size, PbmFault>
     ensures read { ReadsBytes (λ bytes. header_of (first ∷ bytes)) (R.left reader.old) (R.left reader.new) result }
     ensures size { IfOk result (λ size. IsTrue (is_size size.width) × IsTrue (is_size size.height)) }
@@ -54,8 +54,8 @@ fn read_header<R: Source>(reader: &mut R, first: u8) -> Result<Size, PbmFault>
     Err(PbmFault::PbmHeader)
 }
 
-/// Reads the next bytes, this many, and none after them, in place of what the list holds. Its room is used again, and
-/// more memory is taken as bytes come.
+/// Reads exactly this many bytes and replaces the content of the list by them. It reuses the memory of the list, and
+/// takes more as bytes come.
 fn read_bytes<R: Source>(bytes: &mut Vec<u8>, reader: &mut R, count: usize) -> Result<(), PbmFault>
     ensures ok { OnOk result (Consumes (R.left reader.old) (R.left reader.new) bytes.new.items) }
     ensures count { OnOk result (length bytes.new.items ≡ count) }
@@ -80,7 +80,7 @@ fn read_bytes<R: Source>(bytes: &mut Vec<u8>, reader: &mut R, count: usize) -> R
     Ok(())
 }
 
-/// The byte with its low bits, this many, made 0.
+/// The byte with this many low bits set to 0.
 fn without_low_bits(byte: u8, count: usize) -> u8
     requires { count ≤ 7 }
     ensures { result ≡ byte - byte % 2 ^ count }
@@ -88,7 +88,7 @@ fn without_low_bits(byte: u8, count: usize) -> u8
     byte >> count << count
 }
 
-/// Makes the pad bits of rows 0.
+/// Sets the pad bits of rows to 0.
 fn clear_pads(bytes: &mut [u8], size: Size)
     requires wide { 1 ≤ size.width }
     requires count { length bytes.old ≡ stride size.width * size.height }
@@ -105,8 +105,8 @@ fn clear_pads(bytes: &mut [u8], size: Size)
     }
 }
 
-/// The sheet of an image that begins with this byte, in the room of this list. No byte after the one that decides is
-/// read.
+/// The sheet of an image that begins with this byte, in the memory of this list. It reads no byte after the one that
+/// decides.
 fn read_image<R: Source>(room: Vec<u8>, reader: &mut R, first: u8) -> Result<Sheet, PbmFault>
     ensures read { ReadsBytes (λ bytes. image_of (first ∷ bytes)) (R.left reader.old) (R.left reader.new) result }
     ensures failed { FailsFor (R.failed reader.old) (R.failed reader.new) result }
@@ -123,7 +123,7 @@ fn read_image<R: Source>(room: Vec<u8>, reader: &mut R, first: u8) -> Result<She
     })
 }
 
-/// What takes the sheets of images, one after another.
+/// Takes the sheets of images, one after another.
 pub trait SheetIntake {
     /// What it makes of the sheets.
     type Made;
@@ -138,11 +138,12 @@ pub trait SheetIntake {
             → makes self.now (sheets ++ sheet.now ∷ []) made.new) };
 }
 
-/// Shows the sheets of all PBM images that the reader has (netpbm, pbm(5)) to an intake, each before the next is
-/// read into the same memory. At most 4,096 are taken, each with a header of at most 4,096 bytes. An empty input has none.
+/// Reads all PBM images from the reader (netpbm, pbm(5)). It passes each sheet to the intake before it reads the next
+/// one into the same memory. It accepts at most 4,096 images, each with a header of at most 4,096 bytes. An empty
+/// input has none.
 ///
-/// The first byte that cannot be refuses the whole input, and none after it is read: `NotP4`, `PbmHeader` or
-/// `PbmSize`; an end within an image is `Truncated`. Memory is taken as bytes come.
+/// The first byte that is wrong refuses the whole input, with `NotP4`, `PbmHeader` or `PbmSize`, and no byte after it
+/// is read. An end within an image is `Truncated`. It takes memory as bytes come.
 pub fn read_sheets<R: Source, I: SheetIntake>(
     alloc: Global,
     reader: &mut R,
@@ -195,7 +196,7 @@ impl SheetIntake for AllSheets {
     }
 }
 
-/// The sheets of all PBM images that the reader has, as `read_sheets` reads them.
+/// The sheets of all PBM images from the reader, with the errors of `read_sheets`.
 pub fn read_pbm<R: Source>(alloc: Global, reader: &mut R) -> Result<Vec<Sheet>, PbmFault>
     ensures ok { IfOk result (λ sheets. ReadsBytes images_of (R.left reader.old) (R.left reader.new) (Ok sheets.items)) }
     ensures end { OnOk result (IsAtEnd (R.left reader.new)) }

@@ -15,21 +15,21 @@ pub enum State {
     Start,
     /// After `P`.
     Magic,
-    /// In the blanks before a number: whether there was one.
+    /// In the blanks before a number, and whether there was one yet.
     Blanks(Option<u16>, bool),
     /// In a comment.
     Comment(Option<u16>),
-    /// In a number: what its digits say so far, at most 65,536.
+    /// In a number, and the value of its digits so far, at most 65,536.
     Number(Option<u16>, u32),
 }
 
-/// What a byte of a header does.
+/// The effect of a byte of a header.
 #[derive(Clone, Copy)]
 pub enum Step {
-    /// The header goes on.
+    /// The header continues.
     Goes(State),
-    /// It is the last one.
+    /// It is the last byte of the header.
     Done(Size),
-    /// It cannot stand there.
+    /// It is wrong at this place.
     Refused(PbmFault),
 }

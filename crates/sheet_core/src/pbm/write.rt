@@ -12,7 +12,7 @@ use crate::sheet::Sheet;
 use arrayvec::ArrayVec;
 use digits_core::{Failed, Sink, write_all};
 
-/// The longest header that is written: `P4`, two numbers of five digits and three blanks.
+/// The longest header that it writes: `P4`, two numbers of five digits and three blanks.
 const HEADER: usize = 15;
 
 /// Appends a number without leading zeros.
@@ -51,8 +51,8 @@ fn write_image<W: Sink>(sheet: &Sheet, writer: &mut W) -> Result<(), Failed>
     write_all(writer, sheet.bytes.as_slice())
 }
 
-/// Writes sheets as PBM images, one after the other with nothing between them (netpbm, pbm(5)). After
-/// `WriteFault` a prefix of their bytes went out.
+/// Writes sheets as PBM images, one after the other with nothing between them (netpbm, pbm(5)). After `WriteFault`, a
+/// prefix of the bytes was written.
 pub fn write_pbm<W: Sink>(sheets: &[Sheet], writer: &mut W) -> Result<(), WriteFault>
     ensures ok { OnOk result (Appends (W.taken writer.old) (W.taken writer.new) (pbm_of sheets.now)) }
     ensures err { OnErr result (TookFront (W.taken writer.old) (W.taken writer.new) (pbm_of sheets.now)) }

@@ -1,4 +1,4 @@
-//! The options of the command `lanes`, and the numbers that it takes.
+//! The options of the command `lanes`, and their ranges.
 ghost use Rattle.std.specs.Prelude.{◌≡◌, ◌↔◌, IfSome, IsSome};
 ghost use Rattle.element_core.specs.Terms.{profile};
 ghost use Rattle.command_line.specs.Arguments.{IsLaneCount, IsReferenceYear, IsWorkerCount};
@@ -20,7 +20,7 @@ pub struct LaneOptions {
 }
 
 impl LaneOptions {
-    /// These numbers and the AIs of the profile, or none if one number lies outside its range.
+    /// These numbers and the AIs of the profile, or none if a number is out of range.
     pub fn new(lanes: u8, workers: u8, year: u16) -> Option<LaneOptions>
         ensures taken { IsSome result
             ↔ (IsLaneCount lanes × IsWorkerCount workers × IsReferenceYear year) }
@@ -30,7 +30,7 @@ impl LaneOptions {
         LaneOptions::by(lanes, workers, Year::new(year)?)
     }
 
-    /// These numbers by these terms, or none if a number lies outside its range.
+    /// These numbers with these terms, or none if a number is out of range.
     pub(crate) fn by(lanes: u8, workers: u8, terms: Terms) -> Option<LaneOptions>
         ensures taken { IsSome result ↔ (IsLaneCount lanes × IsWorkerCount workers) }
         ensures numbers { IfSome result (λ o. (o.lanes ≡ lanes) × (o.workers ≡ workers)

@@ -8,14 +8,14 @@ use element_core::Form;
 /// The options of the command `live`.
 #[derive(Clone, Copy, Debug, PartialEq, Eq)]
 pub struct LiveOptions {
-    /// The rows that are read: of how many lanes, by how many workers, and by which reference year.
+    /// The rows: of how many lanes, by how many workers, and by which reference year.
     pub rows: LaneOptions,
     /// How the elements of an answer are written.
     pub form: Form,
 }
 
 impl LiveOptions {
-    /// These rows, and elements one by one in place of the human-readable text if `elements` is set.
+    /// These rows. If `elements` is set, answers have separate elements instead of the human-readable text.
     pub fn new(rows: LaneOptions, elements: bool) -> LiveOptions
         ensures rows { result.rows ≡ rows }
         ensures form { asks_elements result.form ≡ elements }

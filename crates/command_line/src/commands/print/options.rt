@@ -1,4 +1,4 @@
-//! The options of the command `print`, and the numbers that it takes.
+//! The options of the command `print`, and their ranges.
 ghost use Rattle.std.specs.Prelude.{◌≡◌, ◌↔◌, IfSome, IsSome};
 ghost use Rattle.element_core.specs.Terms.{profile};
 ghost use Rattle.command_line.specs.Arguments.{IsReferenceYear};
@@ -9,7 +9,7 @@ ghost use Rattle.command_line.specs.Numbers.{AreGridNumbers};
 use crate::grid_options::GridOptions;
 use element_core::{Terms, Year};
 
-/// What `print` writes of labels.
+/// What `print` writes for labels.
 #[derive(Clone, Copy, Debug, PartialEq, Eq)]
 pub enum Output {
     /// The images of their sheets.
@@ -25,13 +25,13 @@ pub struct PrintOptions {
     pub grid: GridOptions,
     /// The year that dates of two digits are read by, and which AIs are accepted.
     pub year: Year,
-    /// What is written of the labels.
+    /// What it writes for the labels.
     pub output: Output,
 }
 
 impl PrintOptions {
-    /// These numbers and the AIs of the profile, and lines of text in place of images if `text` is set; none
-    /// if one number alone lies outside its range. What they may be together is for the grid that is made of them.
+    /// These numbers and the AIs of the profile, and lines of text instead of images if `text` is set; none if a
+    /// number is out of range. `Grid::new` checks later whether they fit together.
     pub fn new(
         module_dots: u16,
         width: u16,
@@ -50,7 +50,7 @@ impl PrintOptions {
         Some(PrintOptions::in_grid(grid, Year::new(year)?, text))
     }
 
-    /// The options in this grid by these terms.
+    /// The options with this grid and these terms.
     pub(crate) fn in_grid(grid: GridOptions, terms: Terms, text: bool) -> PrintOptions
         ensures grid { result.grid ≡ grid }
         ensures rest { (result.year ≡ terms) × (asks_lines result.output ≡ text) }

@@ -1,4 +1,4 @@
-//! The options of the command `scan`, and the numbers that it takes.
+//! The options of the command `scan`, and their ranges.
 ghost use Rattle.std.specs.Prelude.{◌≡◌, ◌↔◌, IfSome, IsSome};
 ghost use Rattle.element_core.specs.Terms.{profile};
 ghost use Rattle.command_line.specs.Arguments.{IsReferenceYear, IsWorkerCount};
@@ -22,8 +22,8 @@ pub struct ScanOptions {
 }
 
 impl ScanOptions {
-    /// These numbers and the AIs of the profile, or none if one number alone lies outside its range.
-    /// What they may be together is for the grid that is made of them.
+    /// These numbers and the AIs of the profile, or none if a number is out of range. `Grid::new` checks later
+    /// whether they fit together.
     pub fn new(
         module_dots: u16,
         width: u16,
@@ -42,7 +42,7 @@ impl ScanOptions {
         ScanOptions::in_grid(grid, workers, Year::new(year)?)
     }
 
-    /// The options in this grid by these terms, or none if this many workers are not taken.
+    /// The options with this grid and these terms, or none if the number of workers is out of range.
     pub(crate) fn in_grid(grid: GridOptions, workers: u8, terms: Terms) -> Option<ScanOptions>
         ensures taken { IsSome result ↔ IsWorkerCount workers }
         ensures numbers { IfSome result (λ o. (o.grid ≡ grid) × (o.workers ≡ workers) × (o.year ≡ terms)) }
