@@ -114,7 +114,7 @@ class Answer {
 
   [Symbol.iterator]() { return this.elements[Symbol.iterator](); }
 
-  toJSON() { return { identifier: this.identifier ?? null, elements: this.elements }; }
+  toJSON() { return { identifier: this.identifier ?? null, gtin: this.gtin ?? null, elements: this.elements }; }
 
   toString() { return `${this.identifier ?? "-"} ${this.text}`; }
 

@@ -381,11 +381,11 @@ class Answer:
         """The answer as a JSON text.
 
         >>> print(read_scan("]C110AB", year=2026).to_json())
-        {"identifier": "]C1", "elements": [{"ai": "10", "title": "BATCH/LOT", "value": "AB"}]}
+        {"identifier": "]C1", "gtin": null, "elements": [{"ai": "10", "title": "BATCH/LOT", "value": "AB"}]}
         """
         import json  # Not at every start: it takes a tenth of it.
 
-        told = {"identifier": self.identifier, "elements": [element.to_dict() for element in self.elements]}
+        told = {"identifier": self.identifier, "gtin": self.gtin, "elements": [element.to_dict() for element in self.elements]}
         return json.dumps(told, ensure_ascii=False)
 
     def __str__(self) -> str:

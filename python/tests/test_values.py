@@ -75,7 +75,7 @@ def test_answers_are_looked_up() -> None:
     assert [it.ai for it in answer] == ["01", "3103", "17"] and "01" in answer and "10" not in answer
     with pytest.raises(KeyError):
         answer["10"]
-    assert json.loads(answer.to_json()) == {"identifier": "]C1", "elements": [
+    assert json.loads(answer.to_json()) == {"identifier": "]C1", "gtin": "09501101530003", "elements": [
         {"ai": "01", "title": "GTIN", "value": "09501101530003"},
         {"ai": "3103", "title": "NET WEIGHT (kg)", "value": "001250", "number": "1.250", "unit": "kg"},
         {"ai": "17", "title": "USE BY or EXPIRY", "value": "261231", "date": "2026-12-31"},

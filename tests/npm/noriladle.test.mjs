@@ -91,7 +91,7 @@ test("values as data", () => {
     if (others) assert.deepEqual(said(ai, value), [title, true, others]);
     else assert.throws(() => said(ai, value), { number: 9 });
   }
-  assert.equal(JSON.stringify(gs1.readScan("9501101530003", 2026)), '{"identifier":null,"elements":[{"ai":"01","title":"GTIN","value":"09501101530003"}]}');
+  assert.equal(JSON.stringify(gs1.readScan("9501101530003", 2026)), '{"identifier":null,"gtin":"09501101530003","elements":[{"ai":"01","title":"GTIN","value":"09501101530003"}]}');
   assert.equal(String(gs1.readScan("9501101530003", 2026)), "- (01)09501101530003");
 });
 
