@@ -7,17 +7,25 @@ import os
 import struct
 import warnings
 import zlib
-from typing import Any, BinaryIO, Optional, Tuple, Union
+from typing import Any, BinaryIO, Optional, Protocol, Tuple, Union
 
 try:
     import numpy
-    from PIL import Image
+    from PIL import Image, UnidentifiedImageError
 except ImportError as error:
     raise ImportError("read_picture needs numpy and Pillow: pip install 'noriladle[picture]'") from error
 
 from . import _MOST, Ais, Box, Refusal, Symbol, Symbols, _ask, _library, _line, _noted, _read, _terms
 
-Picture = Union[Image.Image, str, "os.PathLike[str]", bytes, bytearray, memoryview, BinaryIO, "numpy.ndarray[Any, Any]"]
+
+class Stream(Protocol):
+    """An open binary stream, or any other object with such a call, as uploads are."""
+
+    def read(self, size: int, /) -> Optional[bytes]:
+        """At most this many bytes; none at the end."""
+
+
+Picture = Union[Image.Image, str, "os.PathLike[str]", bytes, bytearray, memoryview, Stream, "numpy.ndarray[Any, Any]"]
 
 FORMATS = ("JPEG", "PNG", "TIFF", "PPM", "BMP", "GIF", "WEBP")
 """The formats of files that it opens. For some others Pillow runs other programs."""
@@ -114,6 +122,11 @@ def _grey_of_file(file: Union[str, "os.PathLike[str]", BinaryIO]) -> "numpy.ndar
         with image:
             image.load()
             plain = _plain(image)
+    except UnidentifiedImageError as error:
+        if isinstance(file, (str, os.PathLike)):
+            raise
+        # Pillow names a stream by its place in memory.
+        raise OSError("this is no JPEG, PNG, TIFF, PBM, PGM, PPM, BMP, GIF or WebP picture") from error
     except (OSError, Refusal):
         raise
     except DAMAGES as error:
@@ -121,7 +134,7 @@ def _grey_of_file(file: Union[str, "os.PathLike[str]", BinaryIO]) -> "numpy.ndar
     return grey_of(plain)
 
 
-def _whole(stream: BinaryIO) -> BinaryIO:
+def _whole(stream: Stream) -> BinaryIO:
     """A stream from its place to its end, in memory: Pillow wants one that it can go back in.
 
     :raises Refusal: 44 ``InputSize`` if it is too long.
