@@ -29,14 +29,18 @@ const OF_CALLS = {
     if (refusal.number > 11) return { key: refusal.number };
     return OF_CALLS[asked.isString ? "parseElements" : "readGtin"](refusal, asked);
   },
-  compose({ number }, { ai, text }) {
+  compose({ number }, { call, ai, text, identifiers }) {
     const right = number === 6 ? paddedGtin(ai, text) : "";
-    if (!ai) return number === 11 ? { key: "fewerElements" } : remedyAlone(number, ai);
+    if (number === 40) return call === "scanText" ? { key: "noIdentifier", values: [text, identifiers.join(", ")] } : call === "stem" ? { key: "noStem", values: [text] } : { key: "noKey" };
+    if (!ai) return number === 4 ? { key: "noElements" } : number === 11 ? { key: "fewerElements" } : remedyAlone(number, ai);
     return { key: "at", values: [`(${ai})${text}`.replaceAll("\x1d", "^"), right ? { key: "padded", values: [`(${ai})${right}`] } : remedyAlone(number, ai)] };
   },
   row: ({ number }) => ({ key: isOfSymbol(number) ? "wrongText" : { 17: "wideRow", 18: "shortRow" }[number] ?? `row${number}` }),
   picture: ({ number }) => ({ key: isOfSymbol(number) ? "wrongText" : number }),
 };
+
+// The calls that are given elements; `stem` is a link whose stem is wrong.
+for (const call of ["scanText", "link", "stem", "conflicts"]) OF_CALLS[call] = OF_CALLS.compose;
 
 // The advice for an error without further information.
 const ofAny = ({ number }) => number === 2 ? { key: "noDigit" } : usualRemedy(number, "", undefined, "^");

@@ -22,6 +22,9 @@ const ANY_YEAR = 2000;
 // The identifiers of scanners that an element string may follow.
 const ELEMENT_STRINGS = ["]C1", "]e0", "]d2", "]Q3", "]J1"];
 
+// The beginning of a link unless another is given.
+const STEM = "https://id.gs1.org";
+
 // The errors of a picture that cannot be read at all. Any other says why none of its rows was read.
 const OF_THE_CALL = [17, 18, 42, 43];
 
@@ -55,6 +58,17 @@ function noting(asked, ask) {
     return ask();
   } catch (error) {
     if (error instanceof Refusal && !ASKED.has(error)) ASKED.set(error, asked);
+    throw error;
+  }
+}
+
+// The same of a call of elements. The error knows the element at its place, or else the call's word.
+function notingOf(call, listed, word, ask) {
+  try {
+    return ask();
+  } catch (error) {
+    const { ai, value } = listed[error.place] ?? { ai: "", value: word };
+    if (error instanceof Refusal) ASKED.set(error, { call, ai, text: value, identifiers: ELEMENT_STRINGS });
     throw error;
   }
 }
@@ -208,11 +222,11 @@ class Gs1 {
 
   compose(elements, year) {
     const listed = listOf(Array.from(elements, (it) => (Array.isArray(it) ? { ai: it[0], value: it[1] } : it)));
-    const said = orRefusal(() => this.#written("gs1_c_scan_text", listed, "]C1", year));
-    if (typeof said === "string") return said.slice("]C1".length);
-    const refusal = said.fault === "TooLong" ? this.#tooLong(listed, year) : said, { ai, value } = listed[refusal.place] ?? { ai: "", value: "" };
-    ASKED.set(refusal, { call: "compose", ai, text: value });
-    throw refusal;
+    return notingOf("compose", listed, "", () => {
+      const said = orRefusal(() => this.#written("gs1_c_scan_text", listed, "]C1", year));
+      if (typeof said === "string") return said.slice("]C1".length);
+      throw said.fault === "TooLong" ? this.#tooLong(listed, year) : said;
+    });
   }
 
   // The error of elements with too many characters: that of the first one that has an error, whose value may be long itself.
@@ -224,9 +238,18 @@ class Gs1 {
     return new Refusal(11, "TooLong");
   }
 
-  scanText(elements, identifier, year) { return this.#written("gs1_c_scan_text", listOf(elements), identifier, year); }
+  scanText(elements, identifier, year) {
+    const listed = listOf(elements);
+    return notingOf("scanText", listed, identifier, () => this.#written("gs1_c_scan_text", listed, identifier, year));
+  }
 
-  link(elements, stem = "https://id.gs1.org", year) { return this.#written("gs1_c_link", listOf(elements), stem, year); }
+  link(elements, stem = STEM, year) {
+    const listed = listOf(elements), said = orRefusal(() => this.#written("gs1_c_link", listed, stem, year));
+    if (typeof said === "string") return said;
+    // With a stem that is right, a list without a key is still refused.
+    const isStem = said.fault === "Kind" && isRead(() => this.#written("gs1_c_link", listed, STEM, year));
+    return notingOf(isStem ? "stem" : "link", listed, stem, () => { throw said; });
+  }
 
   // What a call writes of elements.
   #written(call, listed, word, year = new Date().getFullYear()) {
@@ -251,7 +274,7 @@ class Gs1 {
 
   conflicts(elements) {
     const listed = listOf(elements);
-    this.#putElements(listed);
+    notingOf("conflicts", listed, "", () => this.#putElements(listed));
     const count = Number(this.#calls.calls.gs1_c_conflicts(BigInt(this.#calls.input), BigInt(this.#calls.output), BigInt(MOST_CONFLICTS)));
     return Array.from({ length: count }, (_, i) => conflictOf(listed, this.#calls.answer.subarray(CONFLICT * i, CONFLICT * (i + 1))));
   }

@@ -63,9 +63,10 @@ function printedValue(value) {
 // too, and whether its separator is byte 29 alone.
 /** @typedef {{ text: string, reads: (text: string) => boolean, call: string, isString?: boolean }} Asked */
 
-// The advice if an identifier is followed by another number of digits; the identifiers of Digital Links; the advice for
-// an element that lacks its separator.
+// The advice if an identifier is followed by another number of digits; the identifiers of Digital Links; the AIs of two
+// digits whose values are days; the advice for an element that lacks its separator.
 const LENGTH_KEYS = { "]E0": "lengthEan", "]E4": "lengthEan8", "]I1": "lengthItf" }, LINKS = ["]Q1", "]d1"];
+const DAYS = ["11", "12", "13", "15", "16", "17"];
 const ALONE_KEYS = { 5: "noAi", 6: "valueLength", 7: "valueCharacter", 10: "valueLength" };
 
 // What to do about a refused text, and each text that may be put in its place: this call reads it.
@@ -154,8 +155,8 @@ function remedyOfDigits(refusal, asked) {
   const advice = numberAdvice(text, written) ?? writtenOtherwise(asked);
   if (advice) return advice;
   if (ROUNDED.test(digits)) return { key: "rounded" };
-  const string = `^${digits}`;
-  if (/^[0-9]{15,}$/.test(digits) && asked.reads(string))
+  const areDigits = /^\p{Nd}*$/u.test(digits), string = `^${areDigits ? digits : text}`;
+  if ((areDigits ? digits.length > 14 : number === 1) && asked.reads(string))
     return { key: "manyDigits", values: [string], fixes: [string] };
   return number === 40 ? { key: 1 } : usualRemedy(number, asked.call === "readGtin" ? text : digits, place, "^");
 }
@@ -183,7 +184,9 @@ function usualRemedy(number, text, place, separator) {
 
 // The advice for a single element. Days of AIs of two digits may be 00.
 const remedyAlone = (number, ai) =>
-  ({ key: number === 9 && ai.length !== 2 ? "dayAndTime" : ALONE_KEYS[number] ?? number });
+  // Such as (17)31.12.2026.
+  DAYS.includes(ai) && number in ALONE_KEYS ? { key: 9 }
+    : { key: number === 9 && ai.length !== 2 ? "dayAndTime" : ALONE_KEYS[number] ?? number };
 
 // A text from a place on, which counts bytes.
 const behindPlace = (text, place) =>

@@ -77,6 +77,8 @@ _CONFLICT = struct.Struct("<3B45s")
 _MOST_ELEMENTS, _MOST_TEXT, _MOST_CONFLICTS = 48, 192, 240
 _NAMES_DAY, _NAMES_TIME, _NAMES_LAST_DAY = 1, 2, 4
 _NO_PLACE = 65_535
+_STEM = "https://id.gs1.org"
+"""The beginning of a link unless another is given."""
 
 _RawAnswer = ctypes.c_char * (_HEAD.size + _MOST_ELEMENTS * _PLACE.size)
 _RawConflicts = ctypes.c_char * (_MOST_CONFLICTS * _CONFLICT.size)
@@ -363,9 +365,12 @@ class Answer:
 
         :raises Refusal: 40 ``Kind`` for any other identifier; as :func:`compose` if you made the elements yourself.
         """
-        return _written(_library.gs1_scan_text, self, identifier, year)
+        try:
+            return _written(_library.gs1_scan_text, self, identifier, year)
+        except Refusal as refusal:
+            raise _noted_of(refusal, "scan", self.elements, year, identifier)
 
-    def link(self, stem: str = "https://id.gs1.org", year: Optional[int] = None) -> str:
+    def link(self, stem: str = _STEM, year: Optional[int] = None) -> str:
         """The GS1 Digital Link of these elements: in the path the first one that is a key, with its qualifiers, and in the query the
         others. :func:`read_scan` reads it as the same elements in this order.
 
@@ -375,7 +380,10 @@ class Answer:
         :raises Refusal: 40 ``Kind`` if no element is a key, such as (01), or the stem is no http or https URI or has a ``?`` or a ``#``;
             11 ``TooLong`` if they are no element string in this order; as :func:`compose` if you made the elements yourself.
         """
-        return _written(_library.gs1_link, self, stem, year)
+        try:
+            return _written(_library.gs1_link, self, stem, year)
+        except Refusal as refusal:
+            raise _noted_of(refusal, "stem" if refusal.name == "Kind" and _has_key(self, year) else "link", self.elements, year, stem)
 
     def to_json(self) -> str:
         """The answer as a JSON text.
@@ -874,9 +882,7 @@ def compose(elements: Iterable[Union[Element, Tuple[str, str]]], year: Optional[
     try:
         return _written(_library.gs1_scan_text, Answer(None, tuple(listed)), "]C1", year)[len("]C1"):]
     except Refusal as refusal:
-        told = _too_long(listed, year) if refusal.name == "TooLong" else refusal
-        wrong = None if told.place is None else listed[told.place]
-        raise _noted(told, "compose", wrong.value, year, "all", wrong.ai) if wrong else _noted(told, "compose")
+        raise _noted_of(_too_long(listed, year) if refusal.name == "TooLong" else refusal, "compose", listed, year)
 
 
 def _too_long(elements: List[Element], year: Optional[int]) -> Refusal:
@@ -893,6 +899,20 @@ def _written(call: Any, answer: Answer, word: str, year: Optional[int]) -> str:
     """What a call writes of an answer's elements."""
     said = word.encode()
     return _line(_ask(call, _raw_of(answer), said, len(said), _terms(year, "all")))
+
+
+def _noted_of(refusal: Refusal, call: str, elements: Sequence[Element], year: Optional[int] = None, word: str = "") -> Refusal:
+    """The error of a call of elements, which knows the element at its place, or else the call's word."""
+    wrong = None if refusal.place is None else elements[refusal.place]
+    return _noted(refusal, call, wrong.value, year, "all", wrong.ai) if wrong else _noted(refusal, call, word)
+
+
+def _has_key(answer: Answer, year: Optional[int]) -> bool:
+    """Whether the elements have a link, by a stem that is right."""
+    try:
+        return bool(_written(_library.gs1_link, answer, _STEM, year))
+    except Refusal:
+        return False
 
 
 class Conflict(NamedTuple):
@@ -929,7 +949,10 @@ def conflicts(elements: Iterable[Element]) -> List[Conflict]:
     """
     listed = elements if isinstance(elements, Answer) else Answer(None, tuple(elements))
     found = _RawConflicts()
-    count = _library.gs1_conflicts(_raw_of(listed), found, _MOST_CONFLICTS)
+    try:
+        count = _library.gs1_conflicts(_raw_of(listed), found, _MOST_CONFLICTS)
+    except Refusal as refusal:
+        raise _noted_of(refusal, "conflicts", listed.elements)
     return [_conflict(listed.elements, *_CONFLICT.unpack_from(found, _CONFLICT.size * at)) for at in range(count)]
 
 

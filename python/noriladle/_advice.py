@@ -4,7 +4,7 @@ from __future__ import annotations
 import re
 from typing import Callable, Dict, Iterator, NamedTuple, Optional
 
-from . import _ANY_YEAR, Ais, Kind, Refusal, _remedies, check_digit, label_symbol, parse_elements, read_gtin, read_scan
+from . import _ANY_YEAR, _ELEMENT_STRINGS, Ais, Kind, Refusal, _remedies, check_digit, label_symbol, parse_elements, read_gtin, read_scan
 from ._mending import Advice, Written, advice, is_number, meant
 from ._texts import BRACKETED, LINK, ROUNDED, digits_of, is_elements, pairs_of, read_text, stripped
 from ._values import ai_at
@@ -18,8 +18,12 @@ _LINKS = ("]Q1", "]d1")
 """The identifiers of symbols that have a Digital Link."""
 _ALONE = {5: "noAi", 6: "valueLength", 7: "valueCharacter", 10: "valueLength"}
 """The advice for an element that lacks its separator."""
+_DAYS = ("11", "12", "13", "15", "16", "17")
+"""The Application Identifiers of two digits whose values are days."""
 _EITHER = ("read_text", "read_scan")
 """The calls for which eight digits that begin with 0 are an EAN-8 or a UPC-E."""
+_WRITING = ("compose", "scan", "link", "stem", "conflicts")
+"""The calls that are given elements; ``stem`` is a link whose stem is wrong."""
 _OF_SYMBOLS = range(4, 12)
 """The refusals of what a symbol says."""
 
@@ -33,7 +37,7 @@ class Asked(NamedTuple):
     year: Optional[int] = None
     ais: Ais = "all"
     kind: str = ""
-    """The kind of a label, or the Application Identifier of a pair."""
+    """The kind of a label, or the Application Identifier of an element."""
 
     def reads(self, text: str) -> bool:
         """Whether the call reads another text."""
@@ -52,8 +56,8 @@ def advice_of(refusal: Refusal, asked: Asked) -> Advice:
     if refusal.number == 42:
         return Advice("42")
     of_calls = {"read_text": _of_typed, "read_scan": _of_scan, "parse_elements": _of_elements, "read_gtin": _of_digits,
-                "check_digit": _of_check_digit, "label": _of_label, "compose": _of_pair, "column": _of_column, "row": _of_row,
-                "picture": _of_picture}
+                "check_digit": _of_check_digit, "label": _of_label, "column": _of_column, "row": _of_row, "picture": _of_picture,
+                **dict.fromkeys(_WRITING, _of_written)}
     return of_calls.get(asked.call, _of_any)(refusal, asked)
 
 
@@ -167,8 +171,9 @@ def _of_digits(refusal: Refusal, asked: Asked) -> Advice:
         return told
     if ROUNDED.fullmatch(digits):
         return Advice("rounded")
-    if digits.isascii() and digits.isdecimal() and len(digits) > 14 and asked.reads(f"^{digits}"):
-        return Advice("manyDigits", (f"^{digits}",), (f"^{digits}",))
+    string = f"^{digits if digits.isdecimal() else text}"
+    if (len(digits) > 14 if digits.isdecimal() else refusal.number == 1) and asked.reads(string):
+        return Advice("manyDigits", (string,), (string,))
     return Advice("1") if refusal.number == 40 else _usual(refusal.number, text if asked.call == "read_gtin" else digits, refusal.place, "^")
 
 
@@ -206,11 +211,15 @@ def _of_elements(refusal: Refusal, asked: Asked) -> Advice:
     return _written_otherwise(asked) or _of_string(refusal, asked, asked.text, "byte 29")
 
 
-def _of_pair(refusal: Refusal, asked: Asked) -> Advice:
+def _of_written(refusal: Refusal, asked: Asked) -> Advice:
+    """What to do about elements: about one of them, or about all."""
     ai, value = asked.kind, asked.text
     right = _padded(ai, value) if refusal.number == 6 else ""
+    if refusal.number == 40:
+        of_calls = {"scan": Advice("noIdentifier", (value, ", ".join(it.decode() for it in _ELEMENT_STRINGS))), "stem": Advice("noStem", (value,))}
+        return of_calls.get(asked.call, Advice("noKey"))
     if not ai:
-        return Advice("fewerElements") if refusal.number == 11 else _alone(refusal.number, ai)
+        return Advice({4: "noElements", 11: "fewerElements"}[refusal.number]) if refusal.number in (4, 11) else _alone(refusal.number, ai)
     return Advice("at", (f"({ai}){value}".replace("\x1d", "^"), Advice("padded", (f"({ai}){right}",)) if right else _alone(refusal.number, ai)))
 
 
@@ -241,6 +250,8 @@ def _usual(number: int, text: str, place: Optional[int], separator: str) -> Advi
 
 def _alone(number: int, ai: str) -> Advice:
     """The advice for a single element. Days of Application Identifiers of two digits may be 00."""
+    if ai in _DAYS and number in _ALONE:
+        return Advice("9")  # Such as (17)31.12.2026.
     return Advice("dayAndTime" if number == 9 and len(ai) != 2 else _ALONE.get(number, str(number)))
 
 

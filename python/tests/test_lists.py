@@ -47,7 +47,7 @@ def test_reads_a_text(text: str, identifier: str | None, said: str) -> None:
     ("12345000065", (1, None), "a GTIN has 8, 12, 13 or 14 digits; a spreadsheet may have removed zeros: 012345000065 is right"),
     ("4,01235E+12", (1, None), "the spreadsheet has rounded it"),
     ("4.01235e+12", (1, None), "the spreadsheet has rounded it"),
-    ("010950110153000317261231", (1, None), "a GTIN has at most 14 digits; if this is an element string, write ^0109501101"),
+    ("010950110153000317261231", (1, None), "a GTIN has 8, 12, 13 or 14 digits; if this is an element string, write ^0109501101"),
     ("4012345010008.0", (1, None), "a number has no decimals: write 4012345010008"),
     ("123", (1, None), "a GTIN has 8, 12, 13 or 14 digits"),
     ("", (1, None), "a GTIN has 8, 12, 13 or 14 digits"),

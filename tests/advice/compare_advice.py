@@ -75,10 +75,16 @@ def refusal_of(call: Callable[..., object], *words: Any) -> Refusal | None:
     return None
 
 
+def answer_of(pairs: list[list[str]]) -> noriladle.Answer:
+    return noriladle.Answer(None, tuple(noriladle.Element(ai, value) for ai, value in pairs))
+
+
 CALLS: dict[str, Callable[..., object]] = {
     "scan": lambda text: noriladle.read_scan(text, YEAR), "elements": lambda text: noriladle.parse_elements(text, YEAR),
     "gtin": noriladle.read_gtin, "digit": noriladle.check_digit, "label": lambda kind, text: noriladle.label_symbol(kind, text, YEAR),
-    "compose": lambda ai, value: noriladle.compose([(ai, value)], YEAR), "row": lambda widths: noriladle.read_row(widths, YEAR)}
+    "compose": lambda ai, value: noriladle.compose([(ai, value)], YEAR), "row": lambda widths: noriladle.read_row(widths, YEAR),
+    "text": lambda text: noriladle.read_text(text, YEAR), "scanned": lambda pairs, identifier: answer_of(pairs).scan(identifier, YEAR),
+    "link": lambda pairs, stem: answer_of(pairs).link(stem, YEAR), "conflicts": lambda pairs: noriladle.conflicts(answer_of(pairs))}
 
 
 def questions(chance: random.Random, texts: list[str]) -> list[tuple[Any, ...]]:
@@ -90,6 +96,14 @@ def questions(chance: random.Random, texts: list[str]) -> list[tuple[Any, ...]]:
         asked.append(("label", chance.choice(["ean13", "upca", "ean8", "upce", "gs1128", "itf14", "qr"]), behind))
         asked.append(("label", "gs1128", chance.choice(["4012345010008", "96385074", behind])))
         asked.append(("compose", behind[:chance.choice([2, 3, 4])], behind[4:].replace("^", "")))
+        asked.append(("text", chance.choice([text, behind])))
+        # Whole elements, and wrong ones.
+        read = refusal_of(noriladle.read_scan, text, YEAR) is None
+        pairs = [[it.ai, it.value] for it in noriladle.read_scan(text, YEAR)] if read else [[behind[:2], behind[2:].replace("\0", "")]]
+        pairs *= chance.choice([0, 1, 1, 1, 1, 1, 1, 9])
+        asked.append(("scanned", pairs, chance.choice(["]C1", "]d2", "]E0", "C1", ""])))
+        asked.append(("link", pairs, chance.choice(["https://id.gs1.org", "http://example.com/a", "ftp://example.com", "https://example.com/?a", ""])))
+        asked.append(("conflicts", pairs))
     for _ in range(len(texts) // 20):
         widths = [chance.choice([10, *noriladle.label_symbol("ean13", "4012345010008", YEAR).widths, 0, 70_000][:chance.randrange(1, 64)])
                   for _ in range(chance.choice([3, 31, 61, 4, 47]))]

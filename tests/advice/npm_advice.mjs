@@ -5,6 +5,7 @@ import { pathToFileURL } from "node:url";
 
 const { load, Refusal } = await import(pathToFileURL(`${process.argv[2]}/index.js`));
 const gs1 = await load();
+const elementsOf = (pairs) => pairs.map(([ai, value]) => ({ ai, value }));
 const CALLS = {
   scan: (text) => gs1.readScan(text, 2026),
   elements: (text) => gs1.parseElements(text, 2026),
@@ -13,6 +14,10 @@ const CALLS = {
   label: (kind, text) => gs1.labelSymbol(kind, text, 2026),
   compose: (ai, value) => gs1.compose([[ai, value]], 2026),
   row: (widths) => gs1.readRow(widths, 2026),
+  text: (text) => gs1.readText(text, 2026),
+  scanned: (pairs, identifier) => gs1.scanText(elementsOf(pairs), identifier, 2026),
+  link: (pairs, stem) => gs1.link(elementsOf(pairs), stem, 2026),
+  conflicts: (pairs) => gs1.conflicts(elementsOf(pairs)),
 };
 
 function told([call, ...words]) {
