@@ -1,4 +1,4 @@
-/** Reads pictures and texts in a worker of its own, so that a page stays quick. */
+/** Reads pictures and texts in a worker of its own, so that a page stays quick. For browsers: in Node, call `load` of `noriladle` in a worker thread. */
 
 import type { Gs1Element, Options, Pixels, SymbolKind } from "./index.js";
 
