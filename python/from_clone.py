@@ -5,17 +5,14 @@ the files of the clone, and beside them what python/build makes. The clone is on
 """
 from __future__ import annotations
 
-import hashlib
-import json
 import os
-import platform
 import sys
+from binascii import crc32
 from functools import partial
-from pathlib import Path
-from typing import Any, Dict, List, NoReturn, Sequence
+from typing import List, NoReturn, Sequence
 
-ROOT = Path(__file__).resolve().parent.parent
-MODULE = ROOT / "python" / "noriladle"
+ROOT = os.path.dirname(os.path.dirname(os.path.realpath(__file__)))
+MODULE = os.path.join(ROOT, "python", "noriladle")
 
 
 def fail(why: str) -> NoReturn:
@@ -24,90 +21,99 @@ def fail(why: str) -> NoReturn:
     sys.exit(69)
 
 
-def cache() -> Path:
+def cache() -> str:
     """The folder of this clone in the user's cache."""
     base = os.environ.get("XDG_CACHE_HOME") or os.path.expanduser("~/.cache")
-    return Path(base, "noriladle", "clones", hashlib.sha256(os.fsencode(ROOT)).hexdigest()[:16])
+    # The record of the folder has the clone's name in full.
+    return os.path.join(base, "noriladle", "clones", f"{crc32(os.fsencode(ROOT)):08x}")
 
 
-def read_record(place: Path) -> Dict[str, Any]:
-    """What the last start has written of this folder; nothing if it cannot be read."""
+def read_record(path: str) -> str:
+    """What the last start has written; nothing if it cannot be read."""
     try:
-        told: Dict[str, Any] = json.loads((place / "record.json").read_text("utf-8"))
-        return told
-    except (OSError, ValueError):
-        return {}
+        with open(path, "rb") as file:
+            return os.fsdecode(file.read())
+    except OSError:
+        return ""
 
 
-def looked(*paths: Path) -> Dict[str, Any]:
-    """What says whether files have changed: their names, sizes and times."""
-    files = [it for path in paths for it in ([path] if path.is_file() else sorted(path.iterdir()))]
-    return {str(it): [it.stat().st_size, it.stat().st_mtime_ns, it.stat().st_ctime_ns] for it in files if it.is_file()}
+def looked(*folders: str) -> List[str]:
+    """What says whether files of these folders have changed: their names, sizes and times."""
+    names = [os.path.join(ROOT, folder) for folder in folders]
+    files = [it for name in names if os.path.isdir(name) for it in sorted(os.scandir(name), key=lambda it: it.name) if it.is_file()]
+    return [f"{it.path} {it.stat().st_size} {it.stat().st_mtime_ns} {it.stat().st_ctime_ns}" for it in files]
 
 
 def own_names() -> List[str]:
     """The files of the module, without those that are made and git ignores."""
-    made = [".gitignore", *(line.strip("/") for line in (MODULE / ".gitignore").read_text("ascii").splitlines())]
-    paths = [Path(folder, name).relative_to(MODULE) for folder, inside, names in os.walk(MODULE) if "__pycache__" not in folder for name in names]
-    return sorted(str(path) for path in paths if path.parts[0] not in made)
+    with open(os.path.join(MODULE, ".gitignore"), encoding="utf-8") as file:
+        made = [".gitignore", *(line.strip("/\n") for line in file)]
+    names = [os.path.join(folder, name)[len(MODULE) + 1:] for folder, _, names in os.walk(MODULE) if "__pycache__" not in folder for name in names]
+    return sorted(name for name in names if name.split(os.sep)[0] not in made)
 
 
-def put_links(folder: Path, names: Sequence[str]) -> None:
+def put_links(folder: str, names: Sequence[str]) -> None:
     """Links each file of the module, so Python keeps its bytecode here and not in the clone, and takes away links to files that are gone."""
+    from pathlib import Path
+
     from files import put
 
     for name in names:
-        path, to = folder / name, str(MODULE / name)
+        path, to = Path(folder, name), os.path.join(MODULE, name)
         path.parent.mkdir(parents=True, exist_ok=True)
         if not path.is_symlink() or os.readlink(path) != to:
             put(path, partial(os.symlink, to))
-    for path in folder.rglob("*"):
+    for path in Path(folder).rglob("*"):
         # Another start may be about to put what begins with a dot in its place.
         if path.is_symlink() and not path.name.startswith(".") and str(path.relative_to(folder)) not in names:
             path.unlink(missing_ok=True)
 
 
-def prepare(place: Path) -> bool:
+def prepare(place: str) -> bool:
     """Makes the folder ready, as far as it is not yet; the answer is whether the release is of these sources.
 
     :raises OSError: the folder cannot be written.
     """
-    release, before = ROOT / "release" / "MANIFEST", read_record(place)
-    names = own_names()
-    now = {"root": str(ROOT), "files": names,
-           "looked": looked(ROOT / "shop", ROOT / "tables", *([release] if release.exists() else []))}
-    if {key: before.get(key) for key in now} == now:
-        return bool(before["same"])
+    record, names = os.path.join(place, "record.txt"), own_names()
+    now = "\n".join([ROOT, *names, *looked("shop", "tables", "release")])
+    told, _, before = read_record(record).partition("\n")
+    if before == now:
+        return told == "same"
+    from pathlib import Path
+    from platform import machine
+
     from files import NoFile, is_current, put_file, put_files, unpacked
     from parts import module_made
 
     try:
-        folder, same = place / "noriladle", is_current()
-        folder.mkdir(parents=True, exist_ok=True)
+        folder, same = os.path.join(place, "noriladle"), is_current()
+        os.makedirs(folder, exist_ok=True)
         put_links(folder, names)
-        put_files(folder, module_made(platform.machine(), unpacked))
+        put_files(Path(folder), module_made(machine(), unpacked))
     except NoFile as error:
         fail(str(error))
-    put_file(place / "record.json", json.dumps({**now, "same": same}).encode())
+    put_file(Path(record), os.fsencode("\n".join(["same" if same else "other", now])))
     return same
 
 
-def prepare_page(place: Path) -> None:
+def prepare_page(place: str) -> None:
     """Makes the page ready, if it is not yet.
 
     :raises OSError: the folder cannot be written.
     """
-    record, now = place / "page.json", json.dumps(looked(ROOT / "page", ROOT / "shop", ROOT / "release" / "MANIFEST")).encode()
-    if not record.exists() or record.read_bytes() != now:
+    record, now = os.path.join(place, "page.txt"), "\n".join(looked("page", "shop", "release"))
+    if read_record(record) != now:
+        from pathlib import Path
+
         from files import put_file, put_files, unpacked
         from parts import page_files
 
-        files, folder = page_files(unpacked), place / "noriladle" / "page"
+        files, folder = page_files(unpacked), Path(place, "noriladle", "page")
         put_files(folder, files)
         for path in folder.iterdir():
             if path.name not in files and not path.name.startswith("."):
                 path.unlink(missing_ok=True)
-        put_file(record, now)
+        put_file(Path(record), os.fsencode(now))
 
 
 def main() -> int:
@@ -115,7 +121,7 @@ def main() -> int:
     if sys.version_info < (3, 8):
         fail("this needs Python 3.8 or newer")
     place = cache()
-    sys.path[0], sys.dont_write_bytecode = str(ROOT / "package"), True
+    sys.path[0], sys.dont_write_bytecode = os.path.join(ROOT, "package"), True
     try:
         same = prepare(place)
         if sys.argv[1:2] == ["page"]:
@@ -125,7 +131,7 @@ def main() -> int:
     if not same:
         print("noriladle: the library is that of the last release; the sources here differ; python/build makes one of them with the Rattle kit",
               file=sys.stderr)
-    sys.path[0], sys.dont_write_bytecode = str(place), bool(os.environ.get("PYTHONDONTWRITEBYTECODE"))
+    sys.path[0], sys.dont_write_bytecode = place, bool(os.environ.get("PYTHONDONTWRITEBYTECODE"))
     # The services find the program of the clone behind an installed one.
     os.environ["PATH"] = f"{os.environ.get('PATH', os.defpath)}{os.pathsep}{ROOT}"
     try:

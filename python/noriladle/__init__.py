@@ -24,13 +24,13 @@ import ctypes
 import datetime
 import enum
 import operator
+import os
 import re
 import struct
 from dataclasses import dataclass, field
 from decimal import Decimal
 from functools import lru_cache, wraps
 from itertools import accumulate, islice
-from pathlib import Path
 from typing import TYPE_CHECKING, Any, Callable, Dict, Iterable, Iterator, List, Literal, NamedTuple, Optional, Sequence, Tuple, TypeVar, Union, cast, get_args
 
 from . import _values
@@ -89,7 +89,7 @@ _GTIN = struct.Struct("<H12x14s1040x")
 """``struct gs1_answer`` of a GTIN: fault, and its digits behind the AI."""
 assert (ctypes.sizeof(_RawAnswer), _CONFLICT.size) == (1068, 48), "the sizes that gs1.h promises"
 
-_library = ctypes.CDLL(str(Path(__file__).with_name("libgs1.so")))
+_library = ctypes.CDLL(os.path.join(os.path.dirname(__file__), "libgs1.so"))
 _SIZE, _U16, _U32, _BYTES, _WIDTHS = ctypes.c_size_t, ctypes.c_uint16, ctypes.c_uint32, ctypes.c_char_p, ctypes.POINTER(ctypes.c_uint16)
 for _name in ("gs1_read_message", "gs1_read_elements", "gs1_read_gtin", "gs1_read_text", "gs1_read_data"):
     getattr(_library, _name).argtypes = [_BYTES, _SIZE, _U16, _RawAnswer]
@@ -193,7 +193,8 @@ def _remedies() -> Dict[str, Dict[str, Any]]:
     """The name and the cause of each number, the cause of each advice, and that of each identifier, from the file that tables/remedies makes."""
     import json  # Not at every start: it takes a tenth of it.
 
-    told: Dict[str, Dict[str, Any]] = json.loads(Path(__file__).with_name("remedies.json").read_text("utf-8"))
+    with open(os.path.join(os.path.dirname(__file__), "remedies.json"), encoding="utf-8") as file:
+        told: Dict[str, Dict[str, Any]] = json.load(file)
     return told
 
 

@@ -1,16 +1,17 @@
 """The command ``noriladle``, also ``python3 -m noriladle``."""
 from __future__ import annotations
 
-import argparse
 import importlib
 import os
-import re
 import sys
-from typing import Any, List, NamedTuple, NoReturn, Optional, Sequence, Tuple
+from typing import TYPE_CHECKING, Any, List, NamedTuple, Optional, Sequence
 
-from . import __version__
+from . import __version__, _sources
 from ._shop import machine_language, speak, translated
 from .commands import REFUSED, RIGHT, WRONG_WORDS, WrongWords, tell
+
+if TYPE_CHECKING:
+    from .commands._parser import Parser
 
 
 class Command(NamedTuple):
@@ -37,75 +38,17 @@ COMMANDS = (
 _FOR_SHOPS = ("labels", "check", "read")
 """The commands that speak the language of the machine. The others serve programs and administrators."""
 
-# argparse has no better way to translate its errors than that of gettext, which needs compiled files.
-setattr(argparse, "_", translated)
-
 _ABOUT = "Make labels, check numbers and read pictures: GS1 barcodes for a shop"
 _AFTER = "noriladle COMMAND --help prints the options of a command and an example."
 
 
-class Parser(argparse.ArgumentParser):
-    """A parser whose help has the form of ``gs1_hub``'s, so that one script makes the manual pages of both."""
-
-    def __init__(self, prog: str, about: str, after: str = "", commands: Sequence[Command] = ()) -> None:
-        super().__init__(prog, description=about, epilog=after, allow_abbrev=False, add_help=False)
-        self.commands = commands
-        self.add_argument("-h", "--help", action="help", help=translated("Print help"))
-
-    def format_help(self) -> str:
-        """What the command is for, its usage, arguments and options, and the rest of its text."""
-        words, options = self._get_positional_actions(), self._get_optional_actions()
-        rest = ["COMMAND .."] if self.commands else [translated("[OPTIONS]"), *map(_shown, words)]
-        blocks = [self.description or "", f"{translated('Usage')}: {' '.join([self.prog, *rest])}"]
-        for heading, pairs in (("Commands", [(command.name, command.help) for command in self.commands]),
-                               ("Arguments", [(_shown(action), translated(action.help or "")) for action in words]),
-                               ("Options", [(_names(action), translated(action.help or "")) for action in options])):
-            if pairs:
-                blocks.append("\n".join([f"{translated(heading)}:", *_columns(pairs)]))
-        return "\n\n".join(filter(None, [*blocks, (self.epilog or "").strip()])) + "\n"
-
-    def error(self, message: str) -> NoReturn:
-        """Reports what is wrong with the arguments, with the option that was probably meant, and ends."""
-        known = [name for action in self._actions for name in action.option_strings]
-        wrong = re.match(translated("unrecognized arguments: %s") % r"(--?[\w-]+)", message)
-        meant = _meant(wrong[1], known) if wrong else ""
-        self.exit(WRONG_WORDS, f"{translated('{0}: {1}; see {0} --help', self.prog, message + meant)}\n")
-
-
-def _meant(word: str, known: Sequence[str]) -> str:
-    """A question about the word that was probably meant."""
-    import difflib  # Only used here.
-
-    near = difflib.get_close_matches(word, known, 1)
-    return translated(" (did you mean {0}?)", near[0]) if near else ""
-
-
-def _shown(action: argparse.Action) -> str:
-    """An argument as the usage shows it."""
-    name = str(action.metavar)
-    return f"[{name}]" if action.nargs == "?" else f"{name}.." if action.nargs == "+" else name
-
-
-def _columns(pairs: Sequence[Tuple[str, str]]) -> List[str]:
-    """The lines below a heading, in two columns."""
-    wide = max(len(name) for name, _ in pairs)
-    return [f"  {name:<{wide}}  {about}" for name, about in pairs]
-
-
-def _names(action: argparse.Action) -> str:
-    """The names of an option, with its value."""
-    names = ", ".join(action.option_strings)
-    value = f" <{action.metavar}>" if action.metavar and action.nargs != 0 else ""
-    return f"{names if len(action.option_strings) > 1 or len(names) == 2 else '    ' + names}{value}"
-
-
 def parser_of(name: Optional[str] = None) -> Parser:
     """The parser of the program, or of a subcommand, whose module is imported."""
-    if name is None:
-        from . import _sources  # Only used here.
+    from .commands._parser import Parser  # --version needs none.
 
-        parser = Parser("noriladle", _ABOUT, _AFTER, COMMANDS)
-        parser.add_argument("--version", action="version", version=f"noriladle {__version__} (sources {_sources()})", help="Print version")
+    if name is None:
+        parser = Parser("noriladle", _ABOUT, _AFTER, [(it.name, it.help) for it in COMMANDS])
+        parser.add_argument("--version", action="store_true", help="Print version")
         return parser
     module = _module_of(name)
     about, _, after = (module.__doc__ or "").partition("\n")
@@ -145,6 +88,9 @@ def _run(words: List[str]) -> int:
     if not words:
         sys.stderr.write(parser_of().format_help())
         return WRONG_WORDS
+    if words[0] == "--version":
+        print(f"noriladle {__version__} (sources {_sources()})")
+        return RIGHT
     names = [command.name for command in COMMANDS]
     speak(machine_language() if words[0] in _FOR_SHOPS else "en")
     if words[0] in names:
@@ -152,7 +98,9 @@ def _run(words: List[str]) -> int:
         return status
     if words[0].startswith("-"):
         parser_of().parse_args(words[:1])
-    raise WrongWords(f"there is no command {words[0]!r}{_meant(words[0], names)}; see noriladle --help")
+    from .commands._parser import meant  # Only used here.
+
+    raise WrongWords(f"there is no command {words[0]!r}{meant(words[0], names)}; see noriladle --help")
 
 
 if __name__ == "__main__":

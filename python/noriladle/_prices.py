@@ -3,7 +3,7 @@ from __future__ import annotations
 
 import re
 import unicodedata
-from functools import lru_cache
+from functools import cached_property, lru_cache
 from typing import Any, Dict, FrozenSet, List, Mapping, NamedTuple, Optional, Sequence, Tuple
 
 from ._shop import file_of
@@ -36,21 +36,35 @@ def _pattern(words: str) -> str:
     return f"{'^' * (words[0] == '^')} {' '.join(parts)}(?= ){' $' * (words[-1] == '$')}"
 
 
-def any_of(patterns: Sequence[str]) -> "re.Pattern[str]":
-    """What finds any of some patterns of the table in folded text."""
-    return re.compile("|".join(map(_pattern, patterns)))
+class Words:
+    """Finds any of some patterns of the table in folded text. Their regular expression is made at first use: those of the whole table take half of a start."""
+
+    def __init__(self, patterns: Sequence[str]) -> None:
+        self._patterns = patterns
+
+    @cached_property
+    def _expression(self) -> "re.Pattern[str]":
+        return re.compile("|".join(map(_pattern, self._patterns)))
+
+    def search(self, text: str) -> bool:
+        """Whether the text has one of them."""
+        return bool(self._expression.search(text))
+
+    def cut(self, text: str) -> str:
+        """The text without them."""
+        return self._expression.sub("", text)
 
 
-_IGNORED, _PRICE, _OWN, _GROSS, _RECOMMENDED, _TAXES, _WITH, _WITHOUT, _CENTS = (any_of(_TABLE[name]) for name in (
+_IGNORED, _PRICE, _OWN, _GROSS, _RECOMMENDED, _TAXES, _WITH, _WITHOUT, _CENTS = (Words(_TABLE[name]) for name in (
     "ignored", "price", "own", "gross", "recommended", "taxes", "with", "without", "cents"))
-_SURE = any_of([word for name in ("price", "own", "gross", "recommended", "taxes", "with", "cents", "neutral")
-              for word in _TABLE[name]] + [word for words in _TABLE["marks"].values() for word in words])
-_REASONS = {name: any_of(patterns) for name, patterns in _TABLE["reasons"].items()}
+_SURE = Words([word for name in ("price", "own", "gross", "recommended", "taxes", "with", "cents", "neutral")
+               for word in _TABLE[name]] + [word for words in _TABLE["marks"].values() for word in words])
+_REASONS = {name: Words(patterns) for name, patterns in _TABLE["reasons"].items()}
 CARTON, DEPOSIT = _REASONS["carton"], _REASONS["deposit"]
 """Words of a case, also in headings of numbers, and of what is paid with the price."""
 SURE_REASONS = frozenset(_TABLE["remarks"]["reasons"])
 """Those that a text gives also outside a heading of prices."""
-_MARKS = {name: any_of(patterns) for name, patterns in _TABLE["marks"].items()}
+_MARKS = {name: Words(patterns) for name, patterns in _TABLE["marks"].items()}
 
 
 def folded(heading: str) -> str:
@@ -73,20 +87,20 @@ def folded(heading: str) -> str:
 @lru_cache(maxsize=4096)
 def price_of(heading: str) -> Optional[PriceHeading]:
     """What a heading says about its prices; None if it is not about prices."""
-    text = _IGNORED.sub("", folded(heading[:_MOST + 1]))
+    text = _IGNORED.cut(folded(heading[:_MOST + 1]))
     if len(heading) > _MOST or not _PRICE.search(text):
         return None
     reason = _reason(text, _tax(text)[1])
-    points = bool(_OWN.search(text)) + bool(_GROSS.search(text)) + 2 * _tax(text)[0]
+    points = _OWN.search(text) + _GROSS.search(text) + 2 * _tax(text)[0]
     marks = frozenset(name for name, pattern in _MARKS.items() if pattern.search(text))
-    is_sure = not _SURE.sub("", text).strip()
-    return PriceHeading(reason, -1 if _RECOMMENDED.search(text) else points, marks, bool(_CENTS.search(text)), is_sure)
+    is_sure = not _SURE.cut(text).strip()
+    return PriceHeading(reason, -1 if _RECOMMENDED.search(text) else points, marks, _CENTS.search(text), is_sure)
 
 
 @lru_cache(maxsize=4096)
 def reason_of(text: str) -> str:
     """Why the prices that a text speaks of are not those of the shelf; nothing if it does not say, or speaks of a total."""
-    words = _IGNORED.sub("", folded(text[:_MOST_TEXT]))
+    words = _IGNORED.cut(folded(text[:_MOST_TEXT]))
     _, tax = _tax(words)
     is_about = (tax == "net" or _PRICE.search(words)) and not _REASONS["total"].search(words)
     return _reason(words, tax) if is_about else ""
@@ -99,21 +113,21 @@ def _reason(text: str, tax: str) -> str:
 
 def reason_in(heading: str) -> str:
     """Why amounts below a heading are not prices of the shelf, also if it does not speak of prices; nothing if it does not say."""
-    text = _IGNORED.sub("", folded(heading[:_MOST]))
+    text = _IGNORED.cut(folded(heading[:_MOST]))
     return _reason(text, _tax(text)[1])
 
 
 def has_tax(text: str) -> bool:
     """Whether a folded heading says that its prices have the tax."""
-    return _tax(text)[0] or bool(_GROSS.search(text))
+    return _tax(text)[0] or _GROSS.search(text)
 
 
 @lru_cache(maxsize=4096)
 def may_add_tax(heading: str) -> bool:
     """Whether a heading may be that of prices to which the tax was added: it speaks of tax or a total, and of no other price."""
-    text, reason = _IGNORED.sub("", folded(heading[:_MOST])), reason_in(heading)
+    text, reason = _IGNORED.cut(folded(heading[:_MOST])), reason_in(heading)
     says_so = reason in ("net", "total") or not reason and (_WITH.search(text) or _GROSS.search(text))
-    return bool(says_so) and not _RECOMMENDED.search(text)
+    return says_so and not _RECOMMENDED.search(text)
 
 
 def _tax(text: str) -> Tuple[bool, str]:

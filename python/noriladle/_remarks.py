@@ -9,14 +9,14 @@ from typing import Any, Dict, Iterable, Iterator, NamedTuple, Optional, Sequence
 from ._amounts import cell_amount, price_like
 from ._headings import Headings
 from ._lists import Record
-from ._prices import DEPOSIT, SURE_REASONS, any_of, folded, has_tax, may_add_tax, reason_of
+from ._prices import DEPOSIT, SURE_REASONS, Words, folded, has_tax, may_add_tax, reason_of
 from ._shop import file_of
 
 _TABLE: Dict[str, Any] = file_of("prices")["remarks"]
 _NETS, _NO = frozenset(_TABLE["nets"]), frozenset(_TABLE["no"])
 FLAGS = _NO | frozenset(_TABLE["yes"])
 """Cells that say yes or no."""
-_UNITS, _SIZES, _MEASURES, _CURRENCIES, _QUANTITIES = (any_of(_TABLE[name]) for name in (
+_UNITS, _SIZES, _MEASURES, _CURRENCIES, _QUANTITIES = (Words(_TABLE[name]) for name in (
     "units", "sizes", "measures", "currencies", "quantities"))
 _NEAR, _TAXED = 0.02, 1.3
 """A sum that differs by this part is that of the price, and one up to this many times the price may have its tax."""
@@ -63,7 +63,7 @@ def _in_column(place: int, heading: str, records: Iterable[Record]) -> Iterator[
         return  # Most columns say nothing, and this is faster.
     filled = [(line, plain[cell]) for line, cell in cells if plain[cell]]
     if _UNITS.search(words):
-        is_size = bool(_SIZES.search(words))
+        is_size = _SIZES.search(words)
         yield from (Remark(line, f"{heading}: {cell}") for line, cell in filled if _is_other(cell, is_size))
     elif _CURRENCIES.search(words):
         yield from (Remark(line, f"{heading}: {cell}") for line, cell in filled if cell.upper() != filled[0][1].upper())
@@ -95,6 +95,6 @@ def _share(record: Record, place: int, priced: Sequence[int], quantity: Optional
 def _is_other(unit: str, is_size: bool) -> bool:
     """Whether a unit is another one than a piece: a measure or a case; and beside a price's unit a number above 1."""
     if not is_size:
-        return bool(_MEASURES.search(folded(unit)))
+        return _MEASURES.search(folded(unit))
     found = re.fullmatch("(0*1 |[0-9]+(?![0-9.,]))?(.*)", unit)
     return bool(found and (_MEASURES.search(folded(found[2])) or found[1] and int(found[1]) != 1))

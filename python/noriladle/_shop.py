@@ -4,18 +4,23 @@ python/build puts the files of the repository's folder shop/ beside this module.
 """
 from __future__ import annotations
 
-import json
 import os
 import re
 from functools import lru_cache
-from pathlib import Path
 from typing import Any, Dict, List, Sequence
+
+
+def _path_of(name: str) -> str:
+    return os.path.join(os.path.dirname(__file__), "shop", f"{name}.json")
 
 
 @lru_cache(maxsize=None)
 def file_of(name: str) -> Dict[str, Any]:
     """A file of shop/ without its end .json."""
-    told: Dict[str, Any] = json.loads((Path(__file__).with_name("shop") / f"{name}.json").read_text("utf-8"))
+    import json  # Not at every start.
+
+    with open(_path_of(name), encoding="utf-8") as file:
+        told: Dict[str, Any] = json.load(file)
     return told
 
 
@@ -30,7 +35,7 @@ _language = "en"
 def speak(language: str) -> None:
     """Gives the errors in this language from now on, if shop/ has it."""
     global _language
-    _language = language if (Path(__file__).with_name("shop") / f"{language}.json").is_file() else "en"
+    _language = language if os.path.isfile(_path_of(language)) else "en"
 
 
 def machine_language() -> str:

@@ -112,6 +112,33 @@ def test_it_starts_soon() -> None:
     assert min(start() for _ in range(5)) < 0.15
 
 
+SLOW = {"argparse", "hashlib", "ipaddress", "json", "pathlib", "platform", "shutil", "subprocess", "tempfile", "textwrap"}
+"""Modules of Python that take long, and that not every start needs."""
+
+
+def started(words: list[str], then: str) -> set[str]:
+    """The words that Python writes behind a command, in a process of its own."""
+    script = f"import sys\nsys.path[:0] = {sys.path!r}\nfrom noriladle.__main__ import main\nassert main({words!r}) == 0\n{then}"
+    run = subprocess.run([sys.executable, "-I", "-S", "-c", script], stdout=subprocess.PIPE, check=True, text=True)
+    return {*run.stdout.rpartition("\n--\n")[2].split()}
+
+
+@pytest.mark.parametrize("words, needed", [(["--version"], set()), (["--help"], {"argparse"}), (["check", "LIST"], {"argparse", "json"})])
+def test_a_start_imports_little(words: list[str], needed: set[str], tmp_path: Path) -> None:
+    (tmp_path / "list").write_text("9501101530003\n")
+    assert started([word.replace("LIST", str(tmp_path / "list")) for word in words], "print('--', *sys.modules, sep='\\n')") & SLOW == needed
+
+
+def test_words_of_prices_are_compiled_when_they_are_looked_for(tmp_path: Path) -> None:
+    """All of them take longer than all imports."""
+    then = ("from noriladle import _prices as it\nwords = {name: its for name, its in vars(it).items() if isinstance(its, it.Words)}\n"
+            "print('--', *[name for name, its in words.items() if '_expression' in vars(its)], sep='\\n')")
+    (tmp_path / "list").write_text("9501101530003\n")
+    assert started(["check", str(tmp_path / "list")], then) == set()
+    (tmp_path / "list").write_text("gtin,name\n9501101530003,Oat biscuits\n")
+    assert {"_PRICE"} <= started(["check", str(tmp_path / "list")], then) < {"_IGNORED", "_PRICE", "_TAXES", "_WITHOUT", "_WITH", "CARTON", "DEPOSIT"}
+
+
 SHOPS = ("labels", "check", "read")
 
 

@@ -96,6 +96,17 @@ def test_it_answers_and_leaves_the_clone_as_it_is(whole: Path, tmp_path: Path) -
     assert listing(whole) == before
 
 
+def test_a_start_imports_little(whole: Path, tmp_path: Path) -> None:
+    """The first unpacks the library, by modules that take long."""
+    def slow() -> set[str]:
+        words = [sys.executable, "-S", "-X", "importtime", str(whole / "python" / "from_clone.py"), "--version"]
+        run = subprocess.run(words, check=True, env={"XDG_CACHE_HOME": str(tmp_path)}, stdout=subprocess.PIPE, stderr=subprocess.PIPE, text=True)
+        assert run.stdout.startswith("noriladle ")
+        return {*re.findall(r"(\w+)$", run.stderr, re.MULTILINE)} & {"argparse", "hashlib", "json", "pathlib", "platform", "shutil", "tempfile"}
+
+    assert "hashlib" in slow() and slow() == set()
+
+
 def test_a_read_only_clone_of_another_user(whole: Path) -> None:
     if os.getuid():
         pytest.skip("only root can become another user")

@@ -6,17 +6,18 @@ A module has a docstring, whose first line is the help's first line and whose re
 """
 from __future__ import annotations
 
-import argparse
 import contextlib
 import datetime
 import os
 import sys
 import time
-from pathlib import Path
-from typing import Any, Dict, List, Sequence, Tuple
+from typing import TYPE_CHECKING, Any, Dict, List, Sequence, Tuple, Union
 
 from .. import Answer
 from .._shop import translated
+
+if TYPE_CHECKING:
+    import argparse
 
 RIGHT, REFUSED, WRONG_WORDS = 0, 1, 2
 """The exit statuses: all is well; something was refused, not found or not written; the arguments are wrong, or name a
@@ -45,34 +46,38 @@ def add_ais(parser: argparse.ArgumentParser) -> None:
 
 
 def _year(word: str) -> int:
+    from argparse import ArgumentTypeError  # Not for --version.
+
     if not (word.isascii() and word.isdecimal() and 1951 <= int(word) <= 2149):
-        raise argparse.ArgumentTypeError(translated("{0!r} is no year from 1951 to 2149", word))
+        raise ArgumentTypeError(translated("{0!r} is no year from 1951 to 2149", word))
     return int(word)
 
 
-def write_files(files: Sequence[Tuple[Path, bytes]]) -> None:
+def write_files(files: Sequence[Tuple[Union[str, os.PathLike[str]], bytes]]) -> None:
     """Writes all files or none: writes each beside its place, and then moves all there. A pipe or a device is written in
     its place.
 
     :raises OSError: a file cannot be written.
     """
-    moved: List[Tuple[Path, Path]] = []
+    moved: List[Tuple[str, str]] = []
     try:
         for path, data in files:
-            path = Path(os.path.realpath(path))
-            if path.exists() and not path.is_file():
-                path.write_bytes(data)
+            place = os.path.realpath(path)
+            if os.path.exists(place) and not os.path.isfile(place):
+                with open(place, "wb") as file:
+                    file.write(data)
                 continue
-            beside = path.with_name(f".{path.name}.{os.getpid()}")
+            folder, name = os.path.split(place)
+            beside = os.path.join(folder, f".{name}.{os.getpid()}")
             with open(beside, "xb") as file:
-                moved.append((beside, path))
+                moved.append((beside, place))
                 file.write(data)
-        for beside, path in moved:
-            os.replace(beside, path)
+        for beside, place in moved:
+            os.replace(beside, place)
     except BaseException:
         for beside, _ in moved:
             with contextlib.suppress(FileNotFoundError):
-                beside.unlink()
+                os.unlink(beside)
         raise
 
 

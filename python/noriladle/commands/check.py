@@ -21,7 +21,6 @@ import itertools
 import json
 import sys
 from functools import reduce
-from pathlib import Path
 from typing import Any, Dict, Iterable, Iterator, List, NamedTuple, Optional, Tuple
 
 from .. import Ais, Answer, Conflict, Element, Refusal, _gtins, conflicts
@@ -157,7 +156,7 @@ def _fix(table: Table, name: str, words: argparse.Namespace) -> int:
     if words.output == "-":
         sys.stdout.write(text)
     else:
-        write_files([(Path(words.output), text.encode("utf-8-sig"))])
+        write_files([(words.output, text.encode("utf-8-sig"))])
     tell(f"{counted('corrected', len(changes))}{'' if words.output == '-' else told('inFile', words.output)}")
     return REFUSED if refused else RIGHT
 
