@@ -110,6 +110,7 @@ def test_damaged_letters_end(tmp_path: Path) -> None:
             before, font[place] = font[place], value
             path.write_bytes(font)
             _letters._font.cache_clear()
+            _letters._outlines.cache_clear()
             _letters.dots_of.cache_clear()
             begun = time.process_time()
             try:

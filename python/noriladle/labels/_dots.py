@@ -7,6 +7,7 @@ from __future__ import annotations
 import re
 import struct
 import zlib
+from collections import defaultdict
 from itertools import chain
 from typing import Dict, Iterable, Iterator, List, Sequence, Tuple
 
@@ -32,10 +33,11 @@ class Image:
 
     def put(self, left: int, top: int, width: int, rows: Sequence[int]) -> None:
         """Darkens the dark dots of other rows, from a place on. What lies outside of the image is cut off."""
-        shift, inside = self.width - left - width, (1 << self.width) - 1
-        for place, row in enumerate(rows, top):
-            if row and 0 <= place < self.height:
-                self.rows[place] |= (row << shift if shift >= 0 else row >> -shift) & inside
+        shift, inside, own = self.width - left - width, (1 << self.width) - 1, self.rows
+        is_inside = left >= 0 and shift >= 0  # Most are, and this is faster.
+        for place, row in enumerate(rows[max(0, -top):max(0, len(own) - top)], max(0, top)):
+            if row:
+                own[place] |= row << shift if is_inside else (row << shift if shift >= 0 else row >> -shift) & inside
 
     def write(self, text: Text) -> None:
         """Puts a text, each letter at whole dots, so that it looks the same everywhere."""
@@ -50,22 +52,27 @@ class Image:
     def packed(self, light: int) -> "tuple[int, List[bytes]]":
         """How many bytes a row has, and the rows, eight dots a byte. Dots after the last are light."""
         wide = (self.width + 7) // 8
-        return wide, [(row << 8 * wide - self.width ^ light * ((1 << 8 * wide) - 1)).to_bytes(wide, "big") for row in self.rows]
+        shift, turned = 8 * wide - self.width, light * ((1 << 8 * wide) - 1)
+        return wide, [(row << shift ^ turned).to_bytes(wide, "big") for row in self.rows]
 
 
-def _letters(text: Text) -> Iterator[Tuple[int, int, int, Sequence[int]]]:
+def _letters(text: Text) -> Iterator[Tuple[int, int, int, Tuple[int, ...]]]:
     """The letters of a text that have dots: their places, widths and rows, as far as they lie in its rectangle."""
-    first, upper, wide, high = text.box
+    (first, upper, wide, high), font, size, base = text.box, text.font, text.size, round(text.base)
     for piece, middle in text.pieces():
-        at = middle - text.font.width(piece, text.size) / 2
+        at = middle - font.width(piece, size) / 2
         for letter in piece:
-            dots = dots_of(text.font.path_of(letter), letter, text.size)
-            left, top = round(at) + dots.left, round(text.base) - dots.top
-            before, behind = max(0, first - left), max(0, left + dots.width - first - wide)
-            width, rows = dots.width - before - behind, dots.rows[max(0, upper - top):max(0, upper + high - top)]
+            dots = dots_of(font.path_of(letter), letter, size)
+            left, top, width, rows = round(at) + dots.left, base - dots.top, dots.width, dots.rows
+            # Most lie in it, and this is faster.
+            if left < first or left + width > first + wide or top < upper or top + len(rows) > upper + high:
+                before, behind = max(0, first - left), max(0, left + width - first - wide)
+                width -= before + behind
+                rows = tuple([row >> behind & (1 << max(0, width)) - 1 for row in rows[max(0, upper - top):max(0, upper + high - top)]])
+                left, top = left + before, max(upper, top)
             if width > 0 and rows:
-                yield left + before, max(upper, top), width, [row >> behind & (1 << width) - 1 for row in rows]
-            at += text.font.width(letter, text.size)
+                yield left, top, width, rows
+            at += size * font.widths[letter]
 
 
 def png_of(page: Page, stock: Stock, look: Look) -> bytes:
@@ -87,8 +94,12 @@ def image_of(drawing: Drawing, is_turned: bool) -> Image:
     image = Image(drawing.width, [0] * drawing.height)
     for text in drawing.texts:
         image.write(text)
+    # Most bars stand side by side: their rows are alike.
+    lines: Dict[Tuple[int, int], Image] = defaultdict(lambda: Image(drawing.width, [0]))
     for left, top, width, height in drawing.boxes:
-        image.put(left, top, width, [(1 << width) - 1] * height)
+        lines[top, height].put(left, 0, width, [(1 << width) - 1])
+    for (top, height), line in lines.items():
+        image.put(0, top, drawing.width, line.rows * height)
     return image.turned() if is_turned else image
 
 
@@ -102,7 +113,7 @@ def zpl_of(labels: Iterable[Tuple[Drawing, int]], is_turned: bool, settings: str
             at, wide, high = (drawing.height - top - height, height, width) if is_turned else (left, width, height)
             fields.append(f"^FO{at},{left if is_turned else top}^GB{wide},{high},{min(wide, high)}^FS")
         for left, top, width, rows in chain.from_iterable(map(_letters, drawing.texts)):
-            name = kept.setdefault((width, tuple(rows)), f"R:N{len(kept)}.GRF")
+            name = kept.setdefault((width, rows), f"R:N{len(kept)}.GRF")
             fields.append(f"^FO{drawing.height - top - len(rows) if is_turned else left},{left if is_turned else top}^XG{name}^FS")
         sides = (drawing.height, drawing.width) if is_turned else (drawing.width, drawing.height)
         forms.append("^XA\n^PW{}\n^LL{}\n^LH0,0\n{}\n^PQ{}\n^XZ\n".format(*sides, "\n".join(fields), copies))

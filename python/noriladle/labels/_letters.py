@@ -6,6 +6,7 @@ from __future__ import annotations
 
 import math
 import struct
+from collections import defaultdict
 from functools import lru_cache, reduce
 from operator import or_
 from pathlib import Path
@@ -56,11 +57,17 @@ def dots_of(path: Path, letter: str, size: float) -> Dots:
     :raises NoFont: its outline is damaged.
     """
     try:
-        font = _font(path)
-        outlines = [[Point(x * size, y * size, is_on) for x, y, is_on in outline] for outline in font.outlines(font.glyph(letter))]
+        outlines = [[Point(x * size, y * size, is_on) for x, y, is_on in outline] for outline in _outlines(path, letter)]
         return _filled([edge for outline in outlines for edge in _edges(outline, size)], [place for outline in outlines for place in _speck(outline)])
     except (struct.error, IndexError, ZeroDivisionError, KeyError) as error:
         raise NoFont(f"{path.name} has a damaged letter {letter!r}") from error
+
+
+@lru_cache(maxsize=4096)
+def _outlines(path: Path, letter: str) -> List[List[Point]]:
+    """The outlines of a letter in ems."""
+    font = _font(path)
+    return font.outlines(font.glyph(letter))
 
 
 @lru_cache(maxsize=4096)
@@ -191,16 +198,21 @@ def _edges(outline: Sequence[Point], size: float) -> Iterator[_Edge]:
     at = points[0] if points[0].is_on else points.pop()
     rest = iter([*points[points[0] is at:], at])
     for point in rest:
-        to, count = (point, 1) if point.is_on else (next(rest), 2 + math.isqrt(int(size)))
-        line = [_between(at, point, to, step / count) for step in range(count + 1)]
-        yield from zip(line, line[1:])
-        at = to
+        if point.is_on:
+            yield at[:2], point[:2]
+            at = point
+        else:
+            to = next(rest)
+            line = [(first * at.x + middle * point.x + last * to.x, first * at.y + middle * point.y + last * to.y)
+                    for first, middle, last in _parts(2 + math.isqrt(int(size)))]
+            yield from zip(line, line[1:])
+            at = to
 
 
-def _between(at: Point, side: Point, to: Point, part: float) -> _Place:
-    """A place on a curve."""
-    first, middle, last = (1 - part) ** 2, 2 * part * (1 - part), part ** 2
-    return first * at.x + middle * side.x + last * to.x, first * at.y + middle * side.y + last * to.y
+@lru_cache(maxsize=64)
+def _parts(count: int) -> Sequence[Tuple[float, float, float]]:
+    """How much the points of a curve count at places on it: its begin, the one beside it, and its end."""
+    return [((1 - part) ** 2, 2 * part * (1 - part), part ** 2) for part in (step / count for step in range(count + 1))]
 
 
 def _speck(outline: Sequence[Point]) -> Iterator[Tuple[int, int]]:
@@ -225,11 +237,11 @@ def _filled(edges: Sequence[_Edge], specks: Sequence[Tuple[int, int]]) -> Dots:
 
 def _runs(edges: Sequence[_Edge]) -> Tuple[Dict[int, List[Tuple[int, int]]], List[Tuple[int, int]]]:
     """The dark runs of each row, the first dot and one past the last; and the rows and dots of strokes between two middles."""
-    crossings: Dict[int, List[Tuple[float, int]]] = {}
+    crossings: Dict[int, List[Tuple[float, int]]] = defaultdict(list)
     for (x, y), (to_x, to_y) in edges:
-        low, high = sorted((y, to_y))
+        low, high, way = (y, to_y, 1) if y < to_y else (to_y, y, -1)
         for row in range(math.ceil(low - 0.5), math.ceil(high - 0.5)):
-            crossings.setdefault(row, []).append((x + (row + 0.5 - y) * (to_x - x) / (to_y - y), 1 if y < to_y else -1))
+            crossings[row].append((x + (row + 0.5 - y) * (to_x - x) / (to_y - y), way))
     spans = {row: list(_spans(sorted(its))) for row, its in crossings.items()}
     runs: Dict[int, List[Tuple[int, int]]] = {}
     thin = []
