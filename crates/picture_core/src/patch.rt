@@ -212,8 +212,8 @@ fn beyond(length: i64, side: i64) -> i64
     (length + 2 * side) / 5 + 2 * side
 }
 
-/// At most this many rows through a patch, and beyond its ends.
-pub(crate) fn grid_over(blocks: &Blocks, patch: &[u32], frame: Frame, rows: u32) -> Grid {
+/// The middles of a patch's blocks, along the rows of a frame and across them.
+fn spans_of(blocks: &Blocks, patch: &[u32], frame: Frame) -> (Span, Span) {
     let mut us = Span::none();
     let mut vs = Span::none();
     for number in patch {
@@ -221,6 +221,29 @@ pub(crate) fn grid_over(blocks: &Blocks, patch: &[u32], frame: Frame, rows: u32)
         us = us.with(frame.u_of(spot) * 256);
         vs = vs.with(frame.v_of(spot) * 256);
     }
+    (us, vs)
+}
+
+/// The box around a patch that may be of a symbol has at most so many times its blocks.
+const SPARSE: i64 = 7;
+
+/// Whether the blocks of a patch are few in the box around them, as those of text are.
+pub(crate) fn is_sparse(blocks: &Blocks, patch: &[u32]) -> bool {
+    let (us, vs) = spans_of(blocks, patch, across(blocks, patch));
+    let side = blocks.layout.side as i64;
+    let long = (us.length() >> 16).saturating_add(side);
+    let high = (vs.length() >> 16).saturating_add(side);
+    let most = i64::try_from(patch.len())
+        .unwrap_or(i64::MAX)
+        .saturating_mul(SPARSE)
+        .saturating_mul(side)
+        .saturating_mul(side);
+    long.saturating_mul(high) > most
+}
+
+/// At most this many rows through a patch, and beyond its ends.
+pub(crate) fn grid_over(blocks: &Blocks, patch: &[u32], frame: Frame, rows: u32) -> Grid {
+    let (us, vs) = spans_of(blocks, patch, frame);
     let side = blocks.layout.side as i64 * ONE;
     let beyond = beyond(us.length(), side);
     let height = vs.length() + side;

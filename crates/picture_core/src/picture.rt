@@ -146,19 +146,17 @@ impl<'a> Picture<'a> {
         let y = y.wrapping_sub(HALF);
         let left = ((x / 65_536) as usize).wrapping_sub(1);
         let row = (y / 65_536) as usize;
-        if left >= self.width.saturating_sub(3) || row >= self.height.saturating_sub(1) {
+        if left >= self.width().saturating_sub(3) || row >= self.height().saturating_sub(1) {
             return None;
         }
-        let first = row.wrapping_mul(self.stride).wrapping_add(left);
-        let above = self.grey.get(first..first.wrapping_add(4))?;
-        let first = first.wrapping_add(self.stride);
-        let below = self.grey.get(first..first.wrapping_add(4))?;
+        let above = self.row(row);
+        let below = self.row(row + 1);
         let down = y / 256 % 256;
         let dots = [
-            mixed_in(above, below, 0, down),
-            mixed_in(above, below, 1, down),
-            mixed_in(above, below, 2, down),
-            mixed_in(above, below, 3, down),
+            mixed_in(above, below, left, down),
+            mixed_in(above, below, left + 1, down),
+            mixed_in(above, below, left + 2, down),
+            mixed_in(above, below, left + 3, down),
         ];
         Some(cubic_between(dots, x / 256 % 256))
     }

@@ -6,7 +6,7 @@ ghost use Rattle.picture_core.specs.Told.{IsReadingOf};
 use crate::bands::read_own_rows;
 use crate::level::{level_of, middle_level};
 use crate::look::{LOOKS, read_patch};
-use crate::patch::take_patch;
+use crate::patch::{is_sparse, take_patch};
 use crate::picture::Picture;
 use crate::reader::Reader;
 use crate::room::{Room, RowRoom};
@@ -87,14 +87,19 @@ fn read_stripes(
             }
             let count = take_patch(blocks, first, number, queue).min(queue.len());
             let patch = &queue[..count];
-            let is_small = before >= FIRST_LOOKS || count < most;
-            if count < FEWEST_BLOCKS || (is_found && is_small && !blocks.shows_part(first)) {
+            let is_late = before >= FIRST_LOOKS;
+            let is_other = if is_found {
+                is_late || count < most
+            } else {
+                is_late && is_sparse(&*blocks, patch)
+            };
+            if count < FEWEST_BLOCKS || (is_other && !blocks.shows_part(first)) {
                 leave_patch(blocks, patch);
                 continue;
             }
             let found = shown.found;
             let taken = read_patch(reader, &*blocks, patch, look, row, shown, furthest);
-            note_patch(blocks, patch, taken, before < FIRST_LOOKS);
+            note_patch(blocks, patch, taken, !is_late);
             if shown.found > found {
                 most = most.max(count);
             }

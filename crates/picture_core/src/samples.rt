@@ -3,7 +3,6 @@ ghost use Rattle.std.specs.Prelude.{◌≡◌, ◌⊎◌, ◌+◌, ◌-◌, ◌*
 ghost use Rattle.picture_core.specs.Samples.{AreSamples, IsBeyondEdge, IsInPicture, IsSampleAt, cubic_at, sample_down, sample_right, samples_in, samples_sum};
 
 use crate::picture::Picture;
-use crate::place::half_way;
 use crate::seen_line::{Sampling, SeenLine};
 
 /// Twice the middle of all values, in 1/256 grey value, which have 64 grey values more.
@@ -141,27 +140,34 @@ pub(crate) fn are_samples(
 /// The most samples of a line.
 const MOST: usize = 65_535;
 
+/// How far samples are apart one way, in 1/131072 dot, by how far dots are.
+fn between(step: u32, sampling: Sampling) -> u64 {
+    let half = i64::from(step.cast_signed());
+    let step = match sampling {
+        Sampling::Dots => 2 * half,
+        Sampling::Halves => half,
+    };
+    step.cast_unsigned()
+}
+
+/// A place in 1/65536 dot, by the same in halves of that.
+fn whole(place: u64) -> u32 {
+    (place / 2 % 4_294_967_296) as u32
+}
+
 /// Adds the values of a line to as many sums, up to the first that is not in the picture; how many.
 fn add_values(picture: &Picture, line: &SeenLine, lower: u32, sums: &mut [u32]) -> usize {
-    let mut x = line.right_at(0, lower);
-    let mut y = line.down_at(0, lower);
+    let across = between(line.across, line.sampling);
+    let down = between(line.down, line.sampling);
+    let mut x = 2 * u64::from(line.right_at(0, lower));
+    let mut y = 2 * u64::from(line.down_at(0, lower));
     for (sample, sum) in sums.iter_mut().enumerate() {
-        let next_x = x.wrapping_add(line.across);
-        let next_y = y.wrapping_add(line.down);
-        let is_half = line.sampling == Sampling::Halves && sample % 2 == 1;
-        let value = if is_half {
-            picture.value_at(half_way(x, next_x), half_way(y, next_y))
-        } else {
-            picture.value_at(x, y)
-        };
-        let Some(value) = value else {
+        let Some(value) = picture.value_at(whole(x), whole(y)) else {
             return sample;
         };
         *sum = sum.wrapping_add(value);
-        if is_half || line.sampling == Sampling::Dots {
-            x = next_x;
-            y = next_y;
-        }
+        x = x.wrapping_add(across);
+        y = y.wrapping_add(down);
     }
     sums.len()
 }
