@@ -1,6 +1,7 @@
 """The command ``noriladle``, also ``python3 -m noriladle``."""
 from __future__ import annotations
 
+import gc
 import importlib
 import os
 import sys
@@ -63,6 +64,9 @@ def _module_of(name: str) -> Any:
 
 def main(words: Optional[Sequence[str]] = None) -> int:
     """Runs the command of these arguments, or of the process's own, and returns its status: 0, 1 or 2."""
+    if words is None and hasattr(gc, "freeze"):
+        # What is imported stays. At the end of the process Python would look for garbage in all of it, which takes a tenth of a start.
+        gc.freeze()
     given = list(sys.argv[1:] if words is None else words)
     try:
         status = _run(given)
