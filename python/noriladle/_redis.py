@@ -131,7 +131,7 @@ class Redis:
             # Other connections to a node that has gone are dead too.
             while free:
                 await free.pop().aclose()
-            raise OSError(f"{address}: {fault or 'no answer'}") from fault
+            raise OSError(f"{address}: {str(fault) or 'no answer'}") from fault
         free.append(connection)
         return replies
 

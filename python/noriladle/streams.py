@@ -31,8 +31,9 @@ milliseconds after which it removes a consumer that has done nothing."""
 BATCH, CUT, BYTES = 256, 65_537, 1 << 17
 """The most rows of an entry; the length to which a row is cut, which the hub refuses as too long anyway; and the most
 characters of an entry, except for its first row."""
-HELD, QUOTA = 4096, 32 << 20
-"""Entries of answers that Redis keeps at most, and bytes of a stream; half as many at each look at a node that is full."""
+HELD, QUOTA, SERIES = 4096, 32 << 20, 40
+"""Entries of answers that Redis keeps at most; bytes of a stream, half as many at each look at a node that is full; and
+characters of a series."""
 _LANE = re.compile(r"[A-Za-z0-9._:-]{1,64}")
 _FINAL = ("NOPERM", "WRONGPASS", "NOAUTH", "WRONGTYPE")
 """Errors that an operator must remove before a till can go on."""
@@ -198,7 +199,7 @@ class _Shard:
     async def _give(self, found: Sequence[Tuple[str, Sequence[Tuple[str, Optional[Sequence[str]]]]]]) -> None:
         """Writes the answers to entries and removes their rows, all or none. What was read before a fault may be gone, and
         what has no number is dropped."""
-        asked = [(lane, of.get("s", "")[:40], int(of["n"][:20]) + at, text[:CUT])
+        asked = [(lane, of.get("s", "")[:SERIES], int(of["n"][:20]) + at, text[:CUT])
                  for lane, some in found for _, words in some for of in [_fields(words or ())]
                  if of.get("n", "")[:20].isdecimal() for at, text in enumerate(of.get("t", "").split("\n", BATCH)[:BATCH])]
         said = await self._of.answer([text for *_, text in asked]) if asked else []
@@ -212,8 +213,7 @@ class _Shard:
             names = [name for name, _ in some]
             commands += [["XACK", lane, GROUP, *names], ["XDEL", lane, *names]]
         *_, done = map(whole, await self._shop.ask_all(self._tag, [["MULTI"], *commands, ["EXEC"]]))
-        for reply in done:
-            whole(reply)
+        list(map(whole, done))
         self._of.given += len(asked)
         # 2 kB take as long as a row, and so do 16 fields.
         weight = len(asked) + sum(len(word) + 64 for _, some in found for _, words in some for word in words or ()) // 2048
@@ -229,7 +229,7 @@ class Till:
     seconds, the call raises :class:`NoAnswer`; without ``patience`` it waits. After such an error, or after you cancel a
     call, the till cannot be used again.
 
-    :raises ValueError: this is no name of a lane.
+    :raises ValueError: this is no name of a lane, the series has more than 40 characters, or the start is below 0.
     """
 
     def __init__(self, shop: Shop, lane: str, series: Optional[str] = None, start: int = 0, *, most: int = 1024,
@@ -237,6 +237,8 @@ class Till:
         self.shop, self.lane, self.most, self._patience, self._note = shop, lane, most, patience, note
         self.series, self.number = series or secrets.token_hex(8), start
         """The number is that of the first row that has no answer yet."""
+        if len(self.series) > SERIES or start < 0:
+            raise ValueError(f"no worker answers a series with more than {SERIES} characters, or a number below 0")
         self.repeated = self.lost = self.strange = 0
         """Rows that were submitted again; that Redis had lost; and answers to other rows of these names."""
         self._rows, self._answers = rows(lane), answers(lane)

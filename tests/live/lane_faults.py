@@ -150,6 +150,11 @@ class Record:
             task.cancel()
         await asyncio.gather(*tasks, return_exceptions=True)
 
+    async def all_work(self, names: Collection[str]) -> None:
+        """Waits until the tills of all these lanes have had answers: on a busy machine workers start slowly."""
+        while not self.silence.keys() >= set(names) and time.monotonic() < self.until:
+            await asyncio.sleep(0.1)
+
     async def goes_on(self) -> None:
         """Waits until more answers have come, for 20 seconds at most: else workers die faster than they start."""
         before, until = self.right, time.monotonic() + 20
@@ -301,6 +306,7 @@ async def takeover(record: Record) -> dict[signal.Signals, list[float]]:
             place.worker(name)
 
         async def harm() -> None:
+            await record.all_work(lanes(20))
             await asyncio.sleep(3)
             while not record.has_enough or not longest[signal.SIGTERM]:
                 for how in longest:
@@ -382,6 +388,7 @@ async def behind(record: Record) -> float:
 
             async def harm() -> None:
                 nonlocal longest
+                await record.all_work(lanes(20))
                 await asyncio.sleep(2)
                 record.longest()
                 while not record.has_enough or not longest:
@@ -434,6 +441,7 @@ async def sentinels(record: Record, tls: bool = False) -> list[float]:
             place.worker(name, REDIS_PASSWORD="secret")
 
         async def harm() -> None:
+            await record.all_work(names)
             await asyncio.sleep(3)
             while not record.has_enough or not longest:
                 record.longest()
@@ -470,6 +478,7 @@ async def hung(record: Record, tls: bool = False) -> tuple[list[float], list[flo
             place.worker(name)
 
         async def harm() -> None:
+            await record.all_work(lanes(24))
             await asyncio.sleep(3)
             record.longest()
             while not record.has_enough or not before:
@@ -621,6 +630,7 @@ async def evil(record: Record, seconds: float = 6) -> dict[str, Any]:
         bad, *others = lanes(8)
 
         async def harm() -> None:
+            await record.all_work(others)
             await asyncio.sleep(3)
             record.longest()
             await asyncio.sleep(2)

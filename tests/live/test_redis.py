@@ -262,6 +262,75 @@ def test_rows_that_vanish_unseen() -> None:
 
 
 @pytest.mark.limit(40)
+@pytest.mark.parametrize("is_there", [False, True])
+def test_one_entry_of_several_vanishes(is_there: bool) -> None:
+    """The till's first one, while its second waits, also if somebody else's entry has its ID by then."""
+    async def test(address: str) -> None:
+        shop, stream = Shop(address), keys.rows("3")
+        till = Till(shop, "3")
+        reading = asyncio.ensure_future(till.read_all([EAN13] * 300).__anext__())
+        while await shop.ask(stream, "XLEN", stream) < 2:
+            await asyncio.sleep(0.02)
+        (first, _), (second, words) = await shop.ask(stream, "XRANGE", stream, "-", "+")
+        await shop.ask(stream, "DEL", stream)
+        if is_there:
+            await shop.ask(stream, "XADD", stream, first, "s", "another", "n", "0", "t", "100")
+        await shop.ask(stream, "XADD", stream, second, *words)
+        until = time.monotonic() + 5
+        while not till.repeated:
+            assert time.monotonic() < until
+            await asyncio.sleep(0.1)
+        assert (till.lost, till.repeated) == (256, 300)
+        reading.cancel()
+        await shop.close()
+
+    with Cluster(nodes=1) as cluster:
+        asyncio.run(test(cluster.address))
+
+
+@pytest.mark.limit(40)
+def test_answers_behind_many_others(monkeypatch: pytest.MonkeyPatch) -> None:
+    """A till that looks for losses reads to the end of its answers before it takes anything for lost."""
+    async def test(address: str) -> None:
+        shop, stream, till = Shop(address), keys.rows("3"), Till(Shop(address), "3")
+        reading = asyncio.ensure_future(till.read(EAN13))
+        while not await shop.ask(stream, "XLEN", stream):
+            await asyncio.sleep(0.02)
+        others = [["XADD", keys.answers("3"), "*", "x", "y"]] * 100
+        mine = ["XADD", keys.answers("3"), "*", "s", till.series, "n", "0", "a", f"{keys.mark(EAN13)} {READ}"]
+        monkeypatch.setattr(keys, "IDLE", 0)
+        await shop.ask_all(stream, [["MULTI"], *others, mine, ["DEL", stream], ["EXEC"]])
+        assert await reading == READ and (till.lost, till.repeated) == (0, 0)
+        await shop.close()
+        await till.shop.close()
+
+    with Cluster(nodes=1) as cluster:
+        asyncio.run(test(cluster.address))
+
+
+@pytest.mark.limit(40)
+def test_a_till_looks_at_once_after_an_error(monkeypatch: pytest.MonkeyPatch) -> None:
+    """And does not wait for its next look: a replica that took over may have lost its rows."""
+    monkeypatch.setattr(keys, "IDLE", 60_000)
+
+    async def test(address: str) -> None:
+        shop, stream, till = Shop(address), keys.rows("3"), Till(Shop(address), "3")
+        reading = asyncio.ensure_future(till.read(EAN13))
+        while not await shop.ask(stream, "XLEN", stream):
+            await asyncio.sleep(0.02)
+        until = time.monotonic() + 8
+        await shop.ask_all(stream, [["DEL", stream], ["CLIENT", "KILL", "TYPE", "normal", "SKIPME", "yes"]])
+        while not till.lost:
+            assert time.monotonic() < until
+            await asyncio.sleep(0.02)
+        reading.cancel()
+        await shop.close()
+
+    with Cluster(nodes=1) as cluster:
+        asyncio.run(test(cluster.address))
+
+
+@pytest.mark.limit(40)
 def test_a_clock_that_is_behind() -> None:
     """A node whose clock is two minutes behind takes over, so its answers have lower IDs than those that the till has read."""
     with Cluster(nodes=1) as cluster, Workers(cluster.address, 1):
@@ -296,13 +365,20 @@ def test_two_tills_on_a_lane() -> None:
 def test_a_series_that_another_till_has() -> None:
     """Its answers to other rows have other marks: this till drops them, and submits its own rows."""
     async def test(shop: keys.Shop) -> None:
-        one, two = Till(shop, "3", "f00d"), Till(shop, "3", "f00d")
+        one, two = Till(shop, "3", "f00d" * 10), Till(shop, "3", "f00d" * 10)
         assert [*await asyncio.gather(one.read(EAN13), two.read("100"))] == [READ, "refused 19 Blank"]
         assert one.strange or two.strange
         await shop.close()
 
     with Cluster(nodes=1) as cluster, Workers(cluster.address, 1):
         asyncio.run(test(Shop(cluster.address)))
+
+
+def test_series_that_no_worker_answers() -> None:
+    """A worker repeats 40 characters of a series, and no sign of a number."""
+    for series, start in (("f00d" * 10 + "f", 0), ("f00d", -1)):
+        with pytest.raises(ValueError, match="no worker answers a series with more than 40 characters, or a number below 0"):
+            Till(Shop("localhost:1"), "3", series, start)
 
 
 def test_the_page(tmp_path: Path) -> None:
@@ -323,9 +399,28 @@ def test_a_row_alone() -> None:
         got = asyncio.run(read_lane(cluster.address, "3", asked["3"], most=1))
         assert got == [answer for _, answer in wanted["3"]]
         nothing_left(cluster.address, ["3"])
-        assert int(ask(cluster.ports[0], "XLEN", keys.answers("3"))) < 200
+        # Another till of the lane may be behind by as many.
+        assert 64 <= int(ask(cluster.ports[0], "XLEN", keys.answers("3"))) < 200
         assert ask(cluster.ports[0], "XPENDING", keys.rows("3"), "workers").split()[0] == "0"
         workers.end()
+
+
+def test_at_rest() -> None:
+    """A worker and a till keep their connections, and report nothing."""
+    with Cluster(nodes=1, more="appendfsync no\n") as cluster, Workers(cluster.address, 1) as workers:
+        async def test() -> None:
+            shop = Shop(cluster.address)
+            till, counts = Till(shop, "3"), []
+            for pause in (1, 1, 1, 4, 0):
+                assert await till.read(EAN13) == READ
+                told = await shop.ask("", "INFO", "stats")
+                counts.append(int(told.partition("total_connections_received:")[2].split()[0]))
+                await asyncio.sleep(pause)
+            assert counts[-1] - counts[0] < 5, counts
+            await shop.close()
+
+        asyncio.run(test())
+        assert [line for line in workers.kill("worker0").splitlines() if "127.0.0.1" in line] == []
 
 
 def test_names_of_lanes() -> None:

@@ -199,7 +199,10 @@ def test_what_the_password_of_a_worker_may_not_do() -> None:
                 CLIENT LIST;MONITOR;DEBUG SLEEP 1;REPLICAOF NO ONE;XADD x * a b;XGROUP DESTROY ROWS workers;XSETID ROWS 9-9""".split(";"):
             said = ask(cluster.ports[0], "ACL", "DRYRUN", "worker", *words.replace("ROWS", ROWS).split())
             assert "has no permissions to" in said, (words, said)
-        assert ask(cluster.ports[0], "ACL", "DRYRUN", "worker", "XACK", ROWS, "workers", "1-0") == "OK"
+        for words in """XACK ROWS workers 1-0;XGROUP CREATE ROWS workers 0;XGROUP SETID ROWS workers 0;XGROUP DELCONSUMER ROWS workers one
+                XINFO GROUPS ROWS;XINFO CONSUMERS ROWS workers;XLEN ROWS;MEMORY USAGE ROWS;SCAN 0;TIME;MULTI;EXEC;XREAD STREAMS ROWS 0
+                XAUTOCLAIM ROWS workers one 0 0;XTRIM ROWS MAXLEN 0;XDEL ROWS 1-0""".replace("\n", ";").split(";"):
+            assert ask(cluster.ports[0], "ACL", "DRYRUN", "worker", *words.replace("ROWS", ROWS).split()) == "OK", words
 
 
 @pytest.mark.limit(60)
@@ -270,6 +273,76 @@ def test_a_right_is_taken_back() -> None:
         asyncio.run(test())
 
 
+@pytest.mark.limit(60)
+def test_an_answer_that_cannot_be_written() -> None:
+    """The worker reports why, and goes on with other lanes of the shard."""
+    told: list[str] = []
+    other = beside("3")[0]
+    with Cluster(nodes=1) as cluster:
+        async def test() -> None:
+            shop = Shop(cluster.address)
+            await shop.ask(ANSWERS, "XADD", ANSWERS, f"{2 ** 64 - 1}-{2 ** 64 - 1}", "x", "y")
+
+            async def answer(texts: Sequence[str]) -> list[str]:
+                return [READ] * len(texts)
+
+            one = Worker(keys.Shop([cluster.address], note=told.append), "one", answer)
+            running = asyncio.ensure_future(one.run())
+            waiting = asyncio.ensure_future(Till(Shop(cluster.address), "3").read(EAN13))
+            till = Till(shop, other)
+            for _ in range(10):
+                assert await till.read(EAN13) == READ
+                await asyncio.sleep(0.1)
+            one.stopping = True
+            await running
+            waiting.cancel()
+            await shop.close()
+
+        asyncio.run(test())
+        assert any("exhausted" in it for it in told), told
+
+
+@pytest.mark.limit(60)
+def test_answers_to_rows_that_a_full_node_refuses() -> None:
+    """The answers to a series that is taken again may be there before its rows are submitted."""
+    with Cluster(nodes=1) as cluster, Workers(cluster.address, 1):
+        async def test() -> None:
+            shop, texts = Shop(cluster.address), [EAN13, "100", EAN13]
+            first = Till(shop, "3")
+            wanted = [it async for it in first.read_all(texts)]
+            await shop.ask("", "CONFIG", "SET", "maxmemory", 1)
+            second, got = Till(shop, "3", first.series), []
+
+            async def read() -> None:
+                async for it in second.read_all(texts):
+                    got.append(it)
+
+            reading = asyncio.ensure_future(read())
+            await asyncio.sleep(1)
+            await shop.ask("", "CONFIG", "SET", "maxmemory", 0)
+            await reading
+            assert got == wanted
+            await shop.close()
+
+        asyncio.run(test())
+
+
+def test_the_limit_of_a_reply_is_for_each() -> None:
+    """One of 2 MB is no fault, and 20 of them by one connection are none."""
+    async def test(shop: keys.Shop) -> None:
+        for _ in range(20):
+            assert len(await shop.ask(ROWS, "GET", ROWS)) == 2_000_000
+        with pytest.raises(keys.TooMuch):
+            await shop.ask_all(ROWS, [["GET", ROWS]] * 5)
+        assert await shop.ask(ROWS, "STRLEN", ROWS) == 2_000_000
+        await shop.close()
+
+    with Cluster(nodes=1) as cluster:
+        ask(cluster.ports[0], "CONFIG", "SET", "proto-max-bulk-len", "4mb")
+        ask(cluster.ports[0], "SETRANGE", ROWS, 1_999_999, "x")
+        asyncio.run(test(Shop(cluster.address)))
+
+
 def test_answers_that_nobody_reads() -> None:
     """Of a till that has gone, Redis keeps some 4,096 entries."""
     with Cluster(nodes=1) as cluster, Workers(cluster.address, 1) as workers:
@@ -331,6 +404,8 @@ def test_a_till_of_another_type_or_without_ids() -> None:
         with pytest.raises(LookupError, match=f"lane 3: somebody has used up the IDs of its stream: delete {re.escape(ROWS)}"):
             asyncio.run(read("3"))
         assert asyncio.run(read("4")) == READ
+        ran = subprocess.run([*NORILADLE, "till", "--redis", cluster.address, "3"], input=EAN13, capture_output=True, text=True, timeout=30)
+        assert ran.returncode == 1 and ran.stderr.splitlines()[-1].startswith("noriladle till: lane 3: somebody has used up the IDs")
         assert ask(port, "DEL", ROWS) == "1" and asyncio.run(read("3")) == READ
         ran = subprocess.run([*NORILADLE, "till", "--redis", cluster.address, "1"], input=EAN13, capture_output=True, text=True, timeout=30)
         assert ran.returncode == 1 and "noriladle till: WRONGTYPE" in ran.stderr

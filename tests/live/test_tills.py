@@ -7,18 +7,20 @@ import random
 import re
 import signal
 import socket
+import ssl
 import subprocess
 import time
 import urllib.error
 import urllib.request
 from pathlib import Path
-from typing import Any, Awaitable, Callable
+from typing import Any, Awaitable, Callable, Sequence
 
 import pytest
 
-from workers_and_tills import LANES, NORILADLE, Shop, Till, Workers, entries, keys, rows_of
-from redis_cluster import Cluster, free_ports, make_certificates
-from lane_faults import most_memory
+from workers_and_tills import LANES, NORILADLE, Shop, Till, Worker, Workers, entries, keys, rows_of
+from redis_cluster import Cluster, ask, free_ports, make_certificates
+from lane_faults import Place, most_memory, shifted
+from noriladle.live import HubEnded
 from noriladle.streams import NoAnswer
 from program_and_rows import EAN13, READ
 
@@ -264,6 +266,43 @@ def test_without_a_worker() -> None:
     with_node(test)
 
 
+def test_patience_begins_anew_with_each_answer() -> None:
+    """Each comes within it, all of them do not."""
+    async def test(shop: keys.Shop, _: object) -> None:
+        async def answer(texts: Sequence[str]) -> list[str]:
+            await asyncio.sleep(0.7)
+            return [READ] * len(texts)
+
+        one = Worker(shop, "one", answer)
+        running = asyncio.ensure_future(one.run())
+        till = Till(shop, "3", most=1, patience=2)
+        assert [it async for it in till.read_all([EAN13] * 5)] == [(n, READ) for n in range(5)]
+        one.stopping = True
+        await running
+    with_node(test)
+
+
+def test_a_worker_whose_answers_fail() -> None:
+    """It raises the error, and reads no more rows."""
+    async def test(shop: keys.Shop, _: object) -> None:
+        asked: list[str] = []
+
+        async def answer(texts: Sequence[str]) -> list[str]:
+            asked.extend(texts)
+            raise HubEnded("it has ended")
+
+        readings = [asyncio.ensure_future(Till(shop, "3").read(EAN13))]
+        one = Worker(shop, "one", answer)
+        with pytest.raises(HubEnded):
+            await one.run()
+        readings += [asyncio.ensure_future(Till(shop, lane).read("100")) for lane in LANES]
+        await asyncio.sleep(2)
+        assert asked == [EAN13]
+        for reading in readings:
+            reading.cancel()
+    with_node(test)
+
+
 @pytest.mark.limit(60)
 def test_rows_that_only_wait_are_submitted_again_late() -> None:
     """Without a worker they stay in Redis once for 12 seconds, however often the till looks, and twice for 24: a till that submits
@@ -319,6 +358,115 @@ def test_errors_are_reported_once() -> None:
     asyncio.run(test([]))
 
 
+@pytest.mark.parametrize("said", [b"", b"HTTP/1.1 400 Bad Request\r\n\r\n"])
+def test_what_is_no_redis(said: bytes) -> None:
+    """It ends each connection, or answers as something else does: the till goes on trying."""
+    async def test() -> None:
+        async def serve(reader: asyncio.StreamReader, writer: asyncio.StreamWriter) -> None:
+            await reader.read(1)
+            writer.write(said)
+            writer.close()
+
+        server = await asyncio.start_server(serve, "127.0.0.1", 0)
+        with pytest.raises(NoAnswer):
+            await Till(keys.Shop([f"127.0.0.1:{server.sockets[0].getsockname()[1]}"]), "3", patience=2).read(EAN13)
+        server.close()
+
+    asyncio.run(test())
+
+
+def test_how_often_a_node_that_is_down_is_tried() -> None:
+    """Ten times a second."""
+    class Counted(keys.Shop):
+        tried = 0
+
+        async def rest(self, fault: Exception) -> None:
+            self.tried += 1
+            await super().rest(fault)
+
+    async def test() -> None:
+        shop = Counted([f"127.0.0.1:{free_ports(1)[0]}"])
+        with pytest.raises(NoAnswer):
+            await Till(shop, "3", patience=2).read(EAN13)
+        assert 1 < shop.tried <= 21
+
+    asyncio.run(test())
+
+
+@pytest.mark.limit(40)
+def test_a_node_that_is_silent_from_the_first(certificates: Path) -> None:
+    """It takes a connection, and never begins TLS: a call does not wait for a minute."""
+    async def test() -> None:
+        with socket.create_server(("127.0.0.1", 0)) as server:
+            shop = keys.Shop([f"127.0.0.1:{server.getsockname()[1]}"], tls=ssl.create_default_context(cafile=certificates / "ca.pem"))
+            begin = time.monotonic()
+            with pytest.raises(OSError, match="no answer"):
+                await shop.ask("", "PING")
+            assert time.monotonic() - begin < 8
+
+    asyncio.run(test())
+
+
+def test_a_node_by_ipv6() -> None:
+    try:
+        with socket.create_server(("::1", 0), family=socket.AF_INET6) as free:
+            port = free.getsockname()[1]
+    except OSError:
+        pytest.skip("this machine has no IPv6")
+    with subprocess.Popen(["redis-server", "--bind", "::1", "--port", str(port), "--save", ""], stdout=subprocess.DEVNULL) as node:
+        try:
+            with Workers(f"[::1]:{port}", 1):
+                ran = subprocess.run([*NORILADLE, "till", "--redis", f"[::1]:{port}", "3"], input=EAN13, capture_output=True, text=True, timeout=30)
+                assert (ran.returncode, ran.stdout) == (0, f"0 {READ}\n")
+        finally:
+            node.terminate()
+
+
+@pytest.mark.limit(60)
+def test_the_named_node_is_gone() -> None:
+    """Clients were given one address; then the node dies, and a slot of another moves. They ask the nodes that they know of."""
+    with Cluster() as cluster:
+        async def test() -> None:
+            gone, old, new = cluster.ports
+            lane = next(lane for lane in LANES if cluster.holder(keys.rows(lane)) == old)
+            slot, names = ask(old, "CLUSTER", "KEYSLOT", keys.rows(lane)), {port: ask(port, "CLUSTER", "MYID") for port in cluster.ports}
+            shop = Shop(cluster.address)
+            with Workers(cluster.address, 1):
+                till = Till(shop, lane)
+                assert await till.read(EAN13) == READ
+                cluster.kill(gone)
+                for key in ask(old, "CLUSTER", "GETKEYSINSLOT", slot, 100).split():
+                    ask(old, "DEL", key)
+                for port in (new, old):
+                    ask(port, "CLUSTER", "SETSLOT", slot, "NODE", names[new])
+                assert await till.read(EAN13) == READ
+            await shop.close()
+
+        asyncio.run(test())
+
+
+@pytest.mark.limit(60)
+def test_a_slot_that_no_node_has() -> None:
+    """Its lane waits, others do not, and it goes on when a node has it."""
+    with Cluster(nodes=1) as cluster:
+        port, slot = cluster.ports[0], ask(cluster.ports[0], "CLUSTER", "KEYSLOT", ROWS)
+        other = next(lane for lane in LANES if ask(port, "CLUSTER", "KEYSLOT", keys.rows(lane)) != slot)
+        ask(port, "CLUSTER", "DELSLOTS", slot)
+
+        async def test() -> None:
+            shop = Shop(cluster.address)
+            with Workers(cluster.address, 1) as workers:
+                reading = asyncio.ensure_future(Till(shop, "3").read(EAN13))
+                assert await Till(shop, other).read(EAN13) == READ
+                await asyncio.sleep(1)
+                assert not reading.done() and workers.running["worker0"].poll() is None
+                ask(port, "CLUSTER", "ADDSLOTS", slot)
+                assert await reading == READ
+            await shop.close()
+
+        asyncio.run(test())
+
+
 @pytest.mark.limit(40)
 def test_connections_to_a_node_that_was_gone() -> None:
     """Those that were open before are dead: one call waits for one of them, and the next has a new one."""
@@ -343,6 +491,56 @@ def test_connections_to_a_node_that_was_gone() -> None:
         server.close()
 
     asyncio.run(test())
+
+
+@pytest.mark.limit(60)
+@pytest.mark.parametrize("is_new", [True, False])
+def test_rows_of_a_dead_worker_whose_time_is_in_the_future(is_new: bool) -> None:
+    """The node's clock steps back by a minute: a worker that starts then claims them at once, and so does one that was there."""
+    async def test(place: Place) -> None:
+        port, = free_ports(1)
+        environment, step = shifted(place.folder, 60)
+        place.node(port, **environment)
+        shop, other = place.at(port), Till(place.at(port), "4")
+        if not is_new:
+            place.worker("one")
+            assert await other.read(EAN13) == READ
+            place.workers["one"].send_signal(signal.SIGSTOP)
+        await shop.ask(ROWS, "XGROUP", "CREATE", ROWS, "workers", "0", "MKSTREAM")
+        till = Till(shop, "3")
+        reading = asyncio.ensure_future(till.read(EAN13))
+        while not await shop.ask(ROWS, "XREADGROUP", "GROUP", "workers", "gone", "STREAMS", ROWS, ">"):
+            await asyncio.sleep(0.02)
+        step(0)
+        if is_new:
+            place.worker("one")
+        else:
+            place.workers["one"].send_signal(signal.SIGCONT)
+        assert await reading == READ and till.repeated == 0
+        await shop.close()
+        await other.shop.close()
+
+    with Place() as place:
+        asyncio.run(test(place))
+
+
+@pytest.mark.limit(60)
+def test_a_claimed_row_before_long_ones() -> None:
+    """A worker reads it alone, so what follows it does not make it too long."""
+    async def test(shop: keys.Shop, node: Cluster) -> None:
+        till = Till(shop, "3")
+        await shop.ask(ROWS, "XGROUP", "CREATE", ROWS, "workers", "0", "MKSTREAM")
+        reading = asyncio.ensure_future(till.read(EAN13))
+        while not await shop.ask(ROWS, "XREADGROUP", "GROUP", "workers", "gone", "STREAMS", ROWS, ">"):
+            await asyncio.sleep(0.02)
+        for _ in range(10):
+            await asyncio.to_thread(write, node.ports[0], "XADD", ROWS, "*", "t", "1 " * 500_000)
+        with Workers(node.address, 1) as workers:
+            assert await reading == READ and (till.lost, till.repeated) == (0, 0)
+            while await shop.ask(ROWS, "XLEN", ROWS):
+                await asyncio.sleep(0.1)
+            assert "is dropped" not in workers.kill("worker0")
+    with_node(test)
 
 
 def test_many_entries_of_a_dead_worker() -> None:
@@ -390,6 +588,22 @@ def test_the_command_of_a_till_without_a_worker() -> None:
         assert ran.returncode == 1 and ran.stdout == "" and ran.stderr.endswith("noriladle till: lane 3: no answer for 1 seconds\n")
     ran = subprocess.run(words, input=EAN13, capture_output=True, text=True, timeout=30)
     assert ran.returncode == 1 and "noriladle till: lane 3: no answer for 1 seconds\n" in ran.stderr
+    with Cluster(nodes=1) as node:
+        words = [*NORILADLE, "till", "--redis", node.address, "3", "--patience", "3"]
+        ran = subprocess.run(words, input=EAN13, capture_output=True, text=True, timeout=30)
+        assert "lane 3: no worker answers\n" in ran.stderr
+
+
+def test_year_and_identifiers_of_a_worker() -> None:
+    """As its options say: 2100 has no 29 February, and a profile does not have all Application Identifiers."""
+    async def test(shop: keys.Shop, node: Cluster) -> None:
+        more: list[str] = []
+        for wanted in (["]C1 (17)000229", "]C1 (7240)X"], ["refused 9 ValueDate 0", "refused 5 UnknownAi 0"]):
+            with Workers(node.address, 1, more=more):
+                till = Till(shop, "3")
+                assert [await till.read(text) for text in ("]C117000229", "]C17240X")] == wanted
+            more = ["--year", "2060", "--ais", "profile"]
+    with_node(test)
 
 
 @pytest.mark.limit(80)
@@ -413,6 +627,8 @@ def test_a_call_that_is_cancelled_harms_no_other_till() -> None:
 
                 _, got = await asyncio.gather(hasty(), calm())
                 assert got == [READ] * 20
+        # And leaves no connection open.
+        assert int((await shop.ask("", "INFO", "clients")).partition("connected_clients:")[2].split()[0]) < 10
     with_node(test)
 
 

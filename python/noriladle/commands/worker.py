@@ -61,8 +61,7 @@ def shop_of(words: argparse.Namespace, log: Log) -> Shop:
     if not words.tls and (words.ca or words.cert or words.key):
         raise WrongWords("--ca, --cert and --key are of TLS: add --tls")
     tls = context_of(words.cert, words.key, words.ca) if words.tls else None
-    user, password = words.user or os.environ.get("REDIS_USER"), os.environ.get("REDIS_PASSWORD")
-    return Shop(words.redis, user, password, tls, log.fault, words.master)
+    return Shop(words.redis, words.user or os.environ.get("REDIS_USER"), os.environ.get("REDIS_PASSWORD"), tls, log.fault, words.master)
 
 
 def add_arguments(parser: argparse.ArgumentParser) -> None:
