@@ -160,6 +160,42 @@ def test_a_worker_sleeps_with_rows_that_another_answers() -> None:
         asyncio.run(test(cluster.address))
 
 
+@pytest.mark.limit(60)
+def test_a_node_hangs_while_a_worker_has_its_rows() -> None:
+    """Rows of other nodes do not wait until the worker has given it up, which takes 2.5 seconds."""
+    with Cluster() as cluster:
+        bad = cluster.ports[2]
+        slow, quick = (next(lane for lane in LANES if (cluster.holder(keys.rows(lane)) == bad) == is_bad) for is_bad in (True, False))
+
+        async def test() -> None:
+            hung: list[float] = []
+
+            async def answer(texts: Sequence[str]) -> list[str]:
+                if "100" in texts:
+                    cluster.processes[bad].send_signal(signal.SIGSTOP)
+                    hung.append(time.monotonic())
+                return [READ] * len(texts)
+
+            shop, one = Shop(cluster.address), Worker(Shop(cluster.address), "one", answer)
+            waiting = asyncio.ensure_future(Till(shop, slow).read("100"))
+            while not await shop.ask(keys.rows(slow), "XLEN", keys.rows(slow)):
+                await asyncio.sleep(0.02)
+            running = asyncio.ensure_future(one.run())
+            while not hung:
+                await asyncio.sleep(0.01)
+            assert await Till(shop, quick).read(EAN13) == READ and time.monotonic() - hung[0] < 2
+            cluster.processes[bad].send_signal(signal.SIGCONT)
+            assert await waiting == READ
+            one.stopping = True
+            await running
+            await shop.close()
+
+        try:
+            asyncio.run(test())
+        finally:
+            cluster.processes[bad].send_signal(signal.SIGCONT)
+
+
 def test_a_till_is_started_again() -> None:
     """It goes on with its series, from the row whose answer it had not got; the rows under way are there twice for it."""
     asked, wanted = rows_of(COUNT)

@@ -597,6 +597,25 @@ def test_rows_beside_long_entries() -> None:
         assert min(took) < 1.4, took
 
 
+@pytest.mark.limit(60)
+def test_rows_beside_entries_of_many_fields() -> None:
+    """A worker reads few of these at once, so the other lanes of the shard have their turn between them."""
+    with Cluster(nodes=1) as cluster, Workers(cluster.address, 0) as workers:
+        async def test() -> int:
+            shop, answered = Shop(cluster.address), 0
+            for _ in range(60):
+                await shop.ask(ROWS, "XADD", ROWS, "*", *[word for n in range(20_000) for word in (f"f{n}", "x")])
+            other = Till(Shop(cluster.address), beside("3")[0])
+            workers.start("one")
+            while await shop.ask(ROWS, "XLEN", ROWS):
+                assert await other.read(EAN13) == READ
+                answered += 1
+            await shop.close()
+            return answered
+
+        assert asyncio.run(test()) > 20
+
+
 def test_little_memory_for_long() -> None:
     """40,000 rows go through nodes of 4 MB: they are 7 MB, and their answers."""
     asked, wanted = rows_of(40_000)
