@@ -148,7 +148,7 @@ def test_a_worker_sleeps_with_rows_that_another_answers() -> None:
         reading = asyncio.ensure_future(till.read(EAN13))
         await begun.wait()
         second = asyncio.ensure_future(two.run())
-        assert await reading == READ and two.claimed
+        assert await reading == READ and two.claimed and (till.lost, till.repeated) == (0, 0)
         asleep.set()
         assert await till.read(EAN13) == READ
         one.stopping = two.stopping = True
