@@ -63,12 +63,14 @@ unpacked ws us m n a b eq = absurd (omega arith)
 pub same_value : (v w : ℕ) → v < 106 → w < 106 → pattern v ≡ pattern w → v ≡ w
 same_value v w h k e = sym (code.back v h) ∙ ap shown e ∙ code.back w k
 
-packed_by : (a b c d e f : ℕ) → ((a * 4 + b) * 16 + (c * 4 + d)) * 16 + (e * 4 + f) ≡ 4 * (4 * (4 * (4 * (4 * (0 + a) + b) + c) + d) + e) + f
-packed_by a b c d e f = omega arith
+packed_by : (a b c d e f : ℕ) → 1 ≤ a → 1 ≤ b → 1 ≤ c → 1 ≤ d → 1 ≤ e → 1 ≤ f
+    → (((((a * 4 + b) * 4 + c) * 4 + d) * 4 + e) * 4 + f) - 1365
+    ≡ 4 * (4 * (4 * (4 * (4 * (4 * 0 + (a - 1)) + (b - 1)) + (c - 1)) + (d - 1)) + (e - 1)) + (f - 1)
+packed_by a b c d e f i j k l m n = omega arith
 
 -- six widths, as the code packs them
-pub packed_six : (ws : List ℕ) → length ws ≡ 6
-    → (((get_or ws 0 0 - 1) * 4 + (get_or ws 1 0 - 1)) * 16 + ((get_or ws 2 0 - 1) * 4 + (get_or ws 3 0 - 1))) * 16 +
-    ((get_or ws 4 0 - 1) * 4 + (get_or ws 5 0 - 1)) ≡ packed_widths ws
-packed_six (a ∷ b ∷ c ∷ d ∷ e ∷ f ∷ []) h = packed_by (a - 1) (b - 1) (c - 1) (d - 1) (e - 1) (f - 1)
-packed_six ws h = absurd (omega arith)
+pub packed_six : (ws : List ℕ) → length ws ≡ 6 → AreWidths ws
+    → (((((get_or ws 0 0 * 4 + get_or ws 1 0) * 4 + get_or ws 2 0) * 4 + get_or ws 3 0) * 4 + get_or ws 4 0) * 4 + get_or ws 5 0) - 1365
+    ≡ packed_widths ws
+packed_six (a ∷ b ∷ c ∷ d ∷ e ∷ f ∷ []) h v = packed_by a b c d e f v.0.0 v.1.0.0 v.1.1.0.0 v.1.1.1.0.0 v.1.1.1.1.0.0 v.1.1.1.1.1.0.0
+packed_six ws h v = absurd (omega arith)

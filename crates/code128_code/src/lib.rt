@@ -24,6 +24,6 @@ pub use laws::{
     replaced_is_unchecked, said_is_short, text_or_fault,
 };
 pub use lookup::character;
-pub use reading::values;
+pub use reading::{values, values_of};
 pub use symbol_values::Values;
 pub use texts::text_of;

@@ -1,7 +1,7 @@
 //! Reads the values of a Code 128 symbol from its widths.
 ghost use Rattle.std.specs.Prelude.{◌≡◌, ◌≢◌, ◌↔◌, ◌+◌, ◌%◌, ◌<◌, ◌≤◌, ℕ, List, IfNone, IfSome, IsTrue, length};
 ghost use Rattle.std.specs.List.{AllByRecursion, flat_map};
-ghost use Rattle.ean_code.specs.Widths.{AreWidths};
+ghost use Rattle.ean_code.specs.Widths.{AreModules, AreWidths};
 ghost use Rattle.code128_code.specs.Characters.{pattern, stop};
 ghost use Rattle.code128_code.specs.Symbols.{AreValues, IsCode128Symbol};
 
@@ -12,6 +12,9 @@ use crate::symbol_values::Values;
 use arrayvec::ArrayVec;
 use ean_code::Modules;
 
+/// Six widths of 1 as one number, two bits each.
+const SIX_ONES: u32 = 0x555;
+
 /// The value 0 to 105 of the symbol character with these widths.
 fn value_of(widths: &[u8]) -> Option<u8>
     requires six { length widths.now ≡ 6 }
@@ -19,10 +22,10 @@ fn value_of(widths: &[u8]) -> Option<u8>
     ensures found { IfSome result (λ v. (v < 106) × (pattern v ≡ widths.now)) }
     ensures none { IfNone result ((v : ℕ) → v < 106 → pattern v ≢ widths.now) }
 {
-    let first = u16::from(widths[0] - 1) * 4 + u16::from(widths[1] - 1);
-    let second = u16::from(widths[2] - 1) * 4 + u16::from(widths[3] - 1);
-    let third = u16::from(widths[4] - 1) * 4 + u16::from(widths[5] - 1);
-    character((first * 16 + second) * 16 + third)
+    let two = u32::from(widths[0]) * 4 + u32::from(widths[1]);
+    let four = (two * 4 + u32::from(widths[2])) * 4 + u32::from(widths[3]);
+    let six = (four * 4 + u32::from(widths[4])) * 4 + u32::from(widths[5]);
+    character((six - SIX_ONES) as u16)
 }
 
 /// The start character with these widths.
@@ -92,7 +95,16 @@ pub fn values(modules: &Modules) -> Option<Values>
     ensures none { IfNone result ((start : ℕ) (values : List ℕ) (check : ℕ)
         → IsCode128Symbol start values check modules.now → ⊥) }
 {
-    let widths = modules.widths();
+    values_of(modules.widths())
+}
+
+/// The start, data and check characters of the symbol with these widths, as `values` reads them.
+pub fn values_of(widths: &[u8]) -> Option<Values>
+    requires { AreModules widths.now }
+    ensures some { IfSome result (λ v. IsCode128Symbol v.start v.values.items v.check widths.now) }
+    ensures none { IfNone result ((start : ℕ) (values : List ℕ) (check : ℕ)
+        → IsCode128Symbol start values check widths.now → ⊥) }
+{
     if !is_symbol_length(widths.len()) {
         return None;
     }

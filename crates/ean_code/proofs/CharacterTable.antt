@@ -76,11 +76,12 @@ unpacked (a ∷ b ∷ c ∷ d ∷ []) (p ∷ q ∷ r ∷ s ∷ []) m n v u eq =
     ap₂ (λ i is. i ∷ is) z.1 (ap₂ (λ i is. i ∷ is) y.1 (ap₂ (λ i is. i ∷ is) x.1 (ap (λ i. i ∷ []) w.1)))
 unpacked ws us m n v u eq = absurd (omega arith)
 
-packed_by : (a b c d : ℕ) → (a * 4 + b) * 16 + (c * 4 + d) ≡ 4 * (4 * (4 * (0 + a) + b) + c) + d
-packed_by a b c d = omega arith
+packed_by : (a b c d : ℕ) → 1 ≤ a → 1 ≤ b → 1 ≤ c → 1 ≤ d
+    → (((a * 4 + b) * 4 + c) * 4 + d) - 85 ≡ 4 * (4 * (4 * (4 * 0 + (a - 1)) + (b - 1)) + (c - 1)) + (d - 1)
+packed_by a b c d i j k l = omega arith
 
 -- four widths, as the code packs them
-pub packed_four : (ws : List ℕ) → length ws ≡ 4
-    → ((get_or ws 0 0 - 1) * 4 + (get_or ws 1 0 - 1)) * 16 + ((get_or ws 2 0 - 1) * 4 + (get_or ws 3 0 - 1)) ≡ packed_widths ws
-packed_four (a ∷ b ∷ c ∷ d ∷ []) h = packed_by (a - 1) (b - 1) (c - 1) (d - 1)
-packed_four ws h = absurd (omega arith)
+pub packed_four : (ws : List ℕ) → length ws ≡ 4 → AreWidths ws
+    → (((get_or ws 0 0 * 4 + get_or ws 1 0) * 4 + get_or ws 2 0) * 4 + get_or ws 3 0) - 85 ≡ packed_widths ws
+packed_four (a ∷ b ∷ c ∷ d ∷ []) h v = packed_by a b c d v.0.0 v.1.0.0 v.1.1.0.0 v.1.1.1.0.0
+packed_four ws h v = absurd (omega arith)

@@ -2,6 +2,7 @@
 ghost use Rattle.std.specs.Prelude.{◌≡◌, ◌≢◌, IfNone, IfSome};
 ghost use Rattle.ean_code.specs.Spelling.{IsSpelled};
 ghost use Rattle.ean_code.specs.Symbols.{kind_identifier, module_count, width_count};
+ghost use Rattle.ean_code.specs.Widths.{AreWidths};
 
 use crate::modules::Modules;
 use crate::reading::Spelled;
@@ -63,11 +64,19 @@ impl Kind {
     pub fn read(self, modules: &Modules) -> Spelled
         ensures { IsSpelled self modules.now result }
     {
+        self.read_widths(modules.widths())
+    }
+
+    /// What its symbol with these widths in modules spells, read only forwards.
+    pub fn read_widths(self, widths: &[u8]) -> Spelled
+        requires { AreWidths widths.now }
+        ensures { IsSpelled self widths.now result }
+    {
         match self {
-            Kind::Ean13 => ean13::read_ean13(modules),
-            Kind::Ean8 => ean8::read_ean8(modules),
-            Kind::UpcE => upce::read_upce(modules),
-            Kind::Itf14 => itf14::read_itf14(modules),
+            Kind::Ean13 => ean13::read_ean13_widths(widths),
+            Kind::Ean8 => ean8::read_ean8_widths(widths),
+            Kind::UpcE => upce::read_upce_widths(widths),
+            Kind::Itf14 => itf14::read_itf14_widths(widths),
         }
     }
 }

@@ -99,6 +99,9 @@ fn set_of(of_b: bool) -> NumberSet
     if of_b { NumberSet::B } else { NumberSet::A }
 }
 
+/// Four widths of 1 as one number, two bits each.
+const FOUR_ONES: u32 = 0x55;
+
 /// The character that has these widths.
 fn character_with(widths: &[u8]) -> Option<Character>
     requires four { length widths.now ≡ 4 }
@@ -106,9 +109,9 @@ fn character_with(widths: &[u8]) -> Option<Character>
     ensures found { IfSome result (λ c. (c.digit < 10) × (left_widths c ≡ widths.now)) }
     ensures none { IfNone result ((c : Character) → c.digit < 10 → left_widths c ≢ widths.now) }
 {
-    let first = (widths[0] - 1) * 4 + (widths[1] - 1);
-    let last = (widths[2] - 1) * 4 + (widths[3] - 1);
-    let (of_b, digit) = character(first * 16 + last)?;
+    let first = u32::from(widths[0]) * 4 + u32::from(widths[1]);
+    let four = (first * 4 + u32::from(widths[2])) * 4 + u32::from(widths[3]);
+    let (of_b, digit) = character((four - FOUR_ONES) as u8)?;
     let set = set_of(of_b);
     Some(Character { set, digit })
 }

@@ -10,12 +10,10 @@ ghost use Rattle.scan_core.specs.Showing.{HasSize, kind_of};
 use crate::carrier::{Candidate, Carrier, fixed_candidate, gs1128_candidate};
 use crate::fault::{RowFault, RunFault};
 use crate::found::{Found, push_said};
-use crate::rounding::{is_quiet, round, total_dots};
+use crate::rounding::{MOST_RUNS, is_quiet, round, total_dots};
 use crate::runs::{Runs, inner, runs_fault};
 use crate::stage::{Stage, later};
 use crate::symbol::read_some_way;
-use arrayvec::ArrayVec;
-use ean_code::Modules;
 use element_core::{Elements, Form, Year};
 use std::alloc::AllocError;
 
@@ -50,12 +48,13 @@ fn try_candidate(
     if !is_quiet(widths, total, candidate.count) {
         return Err(Stage::QuietZone);
     }
-    let mut rounded = ArrayVec::new();
-    if !round(inner(widths), total as u16, candidate.count, &mut rounded) {
+    let mut room = [0; MOST_RUNS];
+    let inner = inner(widths);
+    let modules = &mut room[..inner.len()];
+    if !round(inner, total as u16, candidate.count, modules) {
         return Err(Stage::Modules);
     }
-    let mut modules = Modules::new(rounded);
-    if !read_some_way(candidate.carrier, &mut modules, found) {
+    if !read_some_way(candidate.carrier, modules, found) {
         return Err(Stage::Pattern);
     }
     Ok(())

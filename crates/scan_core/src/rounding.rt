@@ -1,5 +1,5 @@
 //! Rounds widths in dots to modules.
-ghost use Rattle.std.specs.Prelude.{◌≡◌, ◌+◌, ◌*◌, ◌<◌, ◌≤◌, ◌↔◌, ◌^◌, ◌%◌, IsTrue, [], ℕ, List, false, length, sum, true};
+ghost use Rattle.std.specs.Prelude.{◌≡◌, ◌+◌, ◌*◌, ◌<◌, ◌≤◌, ◌↔◌, ◌^◌, ◌%◌, IsTrue, ℕ, List, false, length, sum, true};
 ghost use Rattle.std.specs.List.{AllZip};
 ghost use Rattle.ean_code.specs.Widths.{AreModules};
 ghost use Rattle.scan_core.specs.inner.Limits.{AreLimits, IsLeast, IsPast};
@@ -7,10 +7,9 @@ ghost use Rattle.scan_core.specs.Row.{inner};
 ghost use Rattle.scan_core.specs.Showing.{IsQuiet, IsRun, Rounds};
 
 use crate::small_runs::round_small;
-use arrayvec::ArrayVec;
 
 /// The runs of the longest symbol.
-const MOST_RUNS: usize = 595;
+pub(crate) const MOST_RUNS: usize = 595;
 
 /// The number of dots of all runs.
 pub(crate) fn total_dots(widths: &[u16]) -> u32
@@ -148,25 +147,17 @@ fn round_each(inner: &[u16], total: u16, count: u16, modules: &mut [u8]) -> bool
 
 /// Writes the modules of a symbol's runs, which are `total` dots and `count` modules wide, to `modules`. Returns
 /// whether each run has some.
-pub(crate) fn round(
-    inner: &[u16],
-    total: u16,
-    count: u16,
-    modules: &mut ArrayVec<u8, MOST_RUNS>,
-) -> bool
-    requires empty { modules.old.items ≡ [] }
+pub(crate) fn round(inner: &[u16], total: u16, count: u16, modules: &mut [u8]) -> bool
+    requires places { length modules.old ≡ length inner.now }
     requires few { length inner.now ≤ 595 }
     requires odd { length inner.now % 2 ≡ 1 }
     requires sum { total ≡ sum inner.now }
     requires short { count ≤ 1091 }
     requires long { 5 ≤ count }
     requires dots { 0 < total }
-    ensures found { result ≡ true → Rounds inner.now count modules.new.items }
-    ensures modules { result ≡ true → AreModules modules.new.items }
+    ensures found { result ≡ true → Rounds inner.now count modules.new }
+    ensures modules { result ≡ true → AreModules modules.new }
     ensures none { result ≡ false → (ms : List ℕ) → Rounds inner.now count ms → ⊥ }
 {
-    modules
-        .try_extend_from_slice(&[0; MOST_RUNS][..inner.len()])
-        .unwrap();
-    round_each(inner, total, count, modules.as_mut_slice())
+    round_each(inner, total, count, modules)
 }

@@ -2,6 +2,7 @@
 ghost use Rattle.std.specs.Prelude.{◌≡◌, List, Some, false, true, ℕ};
 ghost use Rattle.ean_code.specs.Spelling.{IsSpelled};
 ghost use Rattle.ean_code.specs.Symbols.{IsNumberSymbol};
+ghost use Rattle.ean_code.specs.Widths.{AreModules};
 ghost use Rattle.ean_code.specs.declared.kind.Kind.{Kind};
 ghost use Rattle.scan_core.specs.Reading.{IsSymbolAs, ReadSymbol};
 ghost use Rattle.scan_core.specs.inner.Reading.{found_of};
@@ -10,8 +11,8 @@ ghost use Rattle.scan_core.specs.Showing.{IsSymbol, Way, along, kind_of};
 use crate::carrier::Carrier;
 use crate::fault::RowFault;
 use crate::found::Found;
-use code128_code::values;
-use ean_code::{Modules, Spelled, read_ean8, read_ean13, read_itf14, read_upce};
+use code128_code::values_of;
+use ean_code::Spelled;
 
 /// Writes the symbol of EAN, UPC or ITF-14 that was read, if there was one. Returns whether there was.
 fn put_number(carrier: Carrier, spelled: Spelled, found: &mut Found) -> bool
@@ -29,17 +30,15 @@ fn put_number(carrier: Carrier, spelled: Spelled, found: &mut Found) -> bool
 }
 
 /// Writes the symbol of the carrier that the modules are, read from the left. Returns whether they are one.
-fn read_symbol(carrier: Carrier, modules: &Modules, found: &mut Found) -> bool
+fn read_symbol(carrier: Carrier, modules: &[u8], found: &mut Found) -> bool
+    requires { AreModules modules.now }
     ensures found { result ≡ true → (symbol : ReadSymbol) × IsSymbolAs (kind_of carrier) modules.now symbol
         × (found.new ≡ found_of carrier symbol) }
     ensures none { result ≡ false → IsSymbol (kind_of carrier) modules.now → ⊥ }
 {
-    match carrier {
-        Carrier::Ean13 => put_number(carrier, read_ean13(modules), found),
-        Carrier::Ean8 => put_number(carrier, read_ean8(modules), found),
-        Carrier::UpcE => put_number(carrier, read_upce(modules), found),
-        Carrier::Itf14 => put_number(carrier, read_itf14(modules), found),
-        Carrier::Gs1128 => match values(modules) {
+    match carrier.kind() {
+        Some(kind) => put_number(carrier, kind.read_widths(modules), found),
+        None => match values_of(modules) {
             Some(values) => {
                 *found = Found::Characters(carrier, values);
                 true
@@ -51,7 +50,8 @@ fn read_symbol(carrier: Carrier, modules: &Modules, found: &mut Found) -> bool
 
 /// Writes the symbol of the carrier that the modules are, read from the left or else from the right. Returns whether
 /// they are one. If they are none from the left, it reverses them.
-pub(crate) fn read_some_way(carrier: Carrier, modules: &mut Modules, found: &mut Found) -> bool
+pub(crate) fn read_some_way(carrier: Carrier, modules: &mut [u8], found: &mut Found) -> bool
+    requires { AreModules modules.old }
     ensures found { result ≡ true → (way : Way) × (symbol : ReadSymbol)
         × IsSymbolAs (kind_of carrier) (along way modules.old) symbol × (found.new ≡ found_of carrier symbol) }
     ensures none { result ≡ false → (way : Way) → IsSymbol (kind_of carrier) (along way modules.old) → ⊥ }

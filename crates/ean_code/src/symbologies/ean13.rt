@@ -59,5 +59,13 @@ fn ean13_text(widths: &[u8]) -> Option<ArrayVec<u8, 13>>
 pub fn read_ean13(modules: &Modules) -> Spelled
     ensures { IsSpelled Ean13 modules.now result }
 {
-    spelled_by(ean13_text(modules.widths()))
+    read_ean13_widths(modules.widths())
+}
+
+/// What an EAN-13 with these widths spells, read forwards alone.
+pub(crate) fn read_ean13_widths(widths: &[u8]) -> Spelled
+    requires { AreWidths widths.now }
+    ensures { IsSpelled Ean13 widths.now result }
+{
+    spelled_by(ean13_text(widths))
 }

@@ -60,5 +60,13 @@ fn ean8_text(widths: &[u8]) -> Option<ArrayVec<u8, 13>>
 pub fn read_ean8(modules: &Modules) -> Spelled
     ensures { IsSpelled Ean8 modules.now result }
 {
-    spelled_by(ean8_text(modules.widths()))
+    read_ean8_widths(modules.widths())
+}
+
+/// What an EAN-8 with these widths spells, read forwards alone.
+pub(crate) fn read_ean8_widths(widths: &[u8]) -> Spelled
+    requires { AreWidths widths.now }
+    ensures { IsSpelled Ean8 widths.now result }
+{
+    spelled_by(ean8_text(widths))
 }

@@ -96,5 +96,12 @@ fn itf14_text(widths: &[u8]) -> Option<ArrayVec<u8, 14>>
 pub fn read_itf14(modules: &Modules) -> Spelled
     ensures { IsSpelled Itf14 modules.now result }
 {
-    spelled_by(itf14_text(modules.widths()))
+    read_itf14_widths(modules.widths())
+}
+
+/// What an ITF-14 with these widths spells, read forwards alone.
+pub(crate) fn read_itf14_widths(widths: &[u8]) -> Spelled
+    ensures { IsSpelled Itf14 widths.now result }
+{
+    spelled_by(itf14_text(widths))
 }

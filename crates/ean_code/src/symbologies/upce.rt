@@ -68,7 +68,15 @@ fn upce_text(widths: &[u8]) -> Option<ArrayVec<u8, 13>>
 pub fn read_upce(modules: &Modules) -> Spelled
     ensures { IsSpelled UpcE modules.now result }
 {
-    let Some(text) = upce_text(modules.widths()) else {
+    read_upce_widths(modules.widths())
+}
+
+/// What a UPC-E with these widths spells, read forwards alone.
+pub(crate) fn read_upce_widths(widths: &[u8]) -> Spelled
+    requires { AreWidths widths.now }
+    ensures { IsSpelled UpcE widths.now result }
+{
+    let Some(text) = upce_text(widths) else {
         return Spelled::NoPattern;
     };
     let mut six = [0; 6];

@@ -7,4 +7,4 @@ use Rattle.scan_core.proofs.symbol.read_some_way.Goals as goal
 pub returns-clause-found : goal.returns-clause-found
 returns-clause-found c = λ yes.
     let found = c.read_symbol-2.ensures.found yes in
-    (Backwards, found.0, subst (λ ms. IsSymbolAs (kind_of c.args.carrier) ms found.0) c.reverse.ensures found.1, found.2)
+    (Backwards, found.0, subst (λ ms. IsSymbolAs (kind_of c.args.carrier) ms found.0) c.reverse.ensures.after found.1, found.2)

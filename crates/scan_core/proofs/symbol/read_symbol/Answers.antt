@@ -1,31 +1,24 @@
-use Rattle.ean_code.specs.declared.kind.Kind.TheVariants.{Ean13, Ean8, UpcE, Itf14}
-use Rattle.std.proofs.Common.{refl, rules}
+use Rattle.std.proofs.Common.{◌≡◌, false, refl, subst, true}
+use Rattle.scan_core.specs.Reading.{IsSymbolAs, ReadSymbol}
 use Rattle.scan_core.specs.Reading.ReadSymbol.{Characters}
+use Rattle.scan_core.specs.Showing.{IsSymbol}
+use Rattle.scan_core.specs.inner.Reading.{found_of}
 use Rattle.scan_core.proofs.symbol.read_symbol.Goals as goal
 
-pub returns-in-Ean13-clause-found : goal.returns-in-Ean13-clause-found
-returns-in-Ean13-clause-found c = rw c.in-Ean13.is (rw c.in-Ean13.is at (c.put_number.ensures.found Ean13 c.args.modules.now c.read_ean13.ensures))
-
-pub returns-in-Ean13-clause-none : goal.returns-in-Ean13-clause-none
-returns-in-Ean13-clause-none c = rw c.in-Ean13.is (c.put_number.ensures.none Ean13 c.args.modules.now c.read_ean13.ensures)
-
-pub returns-in-Ean8-clause-found : goal.returns-in-Ean8-clause-found
-returns-in-Ean8-clause-found c = rw c.in-Ean8.is (rw c.in-Ean8.is at (c.put_number-in-Ean8.ensures.found Ean8 c.args.modules.now c.read_ean8.ensures))
-
-pub returns-in-Ean8-clause-none : goal.returns-in-Ean8-clause-none
-returns-in-Ean8-clause-none c = rw c.in-Ean8.is (c.put_number-in-Ean8.ensures.none Ean8 c.args.modules.now c.read_ean8.ensures)
-
-pub returns-in-UpcE-clause-found : goal.returns-in-UpcE-clause-found
-returns-in-UpcE-clause-found c = rw c.in-UpcE.is (rw c.in-UpcE.is at (c.put_number-in-UpcE.ensures.found UpcE c.args.modules.now c.read_upce.ensures))
-
-pub returns-in-UpcE-clause-none : goal.returns-in-UpcE-clause-none
-returns-in-UpcE-clause-none c = rw c.in-UpcE.is (c.put_number-in-UpcE.ensures.none UpcE c.args.modules.now c.read_upce.ensures)
-
-pub returns-in-Itf14-clause-found : goal.returns-in-Itf14-clause-found
-returns-in-Itf14-clause-found c = rw c.in-Itf14.is (rw c.in-Itf14.is at (c.put_number-in-Itf14.ensures.found Itf14 c.args.modules.now c.read_itf14.ensures))
-
-pub returns-in-Itf14-clause-none : goal.returns-in-Itf14-clause-none
-returns-in-Itf14-clause-none c = rw c.in-Itf14.is (c.put_number-in-Itf14.ensures.none Itf14 c.args.modules.now c.read_itf14.ensures)
-
 pub returns-in-Some-clause-found : goal.returns-in-Some-clause-found
-returns-in-Some-clause-found c = rw c.in-Gs1128.is (λ yes. (Characters c.in-Some.values, search rules, refl))
+returns-in-Some-clause-found c =
+    subst (λ kind. c.put_number.result ≡ true → (symbol : ReadSymbol) × IsSymbolAs kind c.args.modules.now symbol
+    × (c.put_number.new.found ≡ found_of c.args.carrier symbol)) c.in-Some.ensures
+    (c.put_number.ensures.found c.in-Some.kind c.args.modules.now c.read_widths.ensures)
+
+pub returns-in-Some-clause-none : goal.returns-in-Some-clause-none
+returns-in-Some-clause-none c =
+    subst (λ kind. c.put_number.result ≡ false → IsSymbol kind c.args.modules.now → ⊥) c.in-Some.ensures
+    (c.put_number.ensures.none c.in-Some.kind c.args.modules.now c.read_widths.ensures)
+
+pub returns-in-Some-values_of-clause-found : goal.returns-in-Some-values_of-clause-found
+returns-in-Some-values_of-clause-found c = λ yes. (
+  Characters c.in-Some-values_of.values,
+  subst (λ kind. IsSymbolAs kind c.args.modules.now (Characters c.in-Some-values_of.values)) c.in-None.ensures c.in-Some-values_of.ensures.some,
+  refl,
+)

@@ -1,10 +1,8 @@
 use Rattle.std.proofs.Common.{ℕ, List, ◌∙◌, sym, ap, subst, take, get_or, ◌-◌}
 use Rattle.digits_core.specs.Digits.{digits_of}
 use Rattle.digits_core.specs.Upce.{IsUpceOf}
-use Rattle.ean_code.specs.Symbols.{IsNumberSymbol}
-use Rattle.ean_code.specs.declared.kind.Kind.TheVariants.{UpcE}
 use Rattle.ean_code.proofs.Expanded.{upce_of_text}
-use Rattle.ean_code.proofs.symbologies.upce.read_upce.Goals as goal
+use Rattle.ean_code.proofs.symbologies.upce.read_upce_widths.Goals as goal
 
 pub returns-in-None : goal.returns-in-None
 returns-in-None c =
@@ -12,7 +10,7 @@ returns-in-None c =
     let six : List ℕ = c.copy_from_slice.new.self in
     let found = c.in-Some.ensures.found in (
       digits_of text,
-      subst (λ ms. IsNumberSymbol UpcE ms (digits_of text)) c.widths.ensures.value found.1,
+      found.1,
       λ gtin g h. c.in-None.ensures.none gtin (subst (λ t. IsUpceOf (digits_of six) (get_or t 6 0 - 48) gtin) (sym c.as_slice-2.ensures.value)
-          (upce_of_text c.widths.result.now text gtin six found (c.copy_from_slice.ensures.after ∙ ap (take 6) c.as_slice.ensures.value) g h)),
+          (upce_of_text c.args.widths.now text gtin six found (c.copy_from_slice.ensures.after ∙ ap (take 6) c.as_slice.ensures.value) g h)),
     )
