@@ -41,6 +41,10 @@ size_t gs1_c_format(const struct gs1_answer *answer, uint32_t form, uint8_t *out
 size_t gs1_c_scan_text(const struct gs1_answer *answer, const uint8_t *identifier, size_t length, uint16_t year, uint8_t *out, size_t room);
 size_t gs1_c_link(const struct gs1_answer *answer, const uint8_t *stem, size_t length, uint16_t year, uint8_t *out, size_t room);
 size_t gs1_c_conflicts(const struct gs1_answer *answer, struct gs1_conflict *out, size_t room);
+uint32_t gs1_c_compose(const struct gs1_element *elements, size_t count, uint16_t year, struct gs1_answer *answer);
+uint32_t gs1_c_kind_of_gtin(const struct gs1_answer *answer);
+size_t gs1_c_gtin_as(const struct gs1_answer *answer, uint32_t digits, uint8_t *out, size_t room);
+size_t gs1_c_unit(const uint8_t *ai, size_t length, uint8_t *out, size_t room);
 uint32_t gs1_c_measure(const struct gs1_look *look, const struct gs1_article *article, uint16_t year, struct gs1_measure *measure);
 uint32_t gs1_c_plan(const struct gs1_look *look, const struct gs1_measure *measures, size_t count, struct gs1_plan *plan);
 uint32_t gs1_c_draw(const struct gs1_look *look, const struct gs1_plan *plan, const struct gs1_article *article, uint16_t year, uint8_t *row,
@@ -216,6 +220,30 @@ size_t gs1_link(const struct gs1_answer *answer, const uint8_t *stem, size_t len
 
 size_t gs1_conflicts(const struct gs1_answer *answer, struct gs1_conflict *conflicts, size_t room) {
     return gs1_c_conflicts(answer ? answer : &no_answer, WRITE(struct gs1_conflict, conflicts, room));
+}
+
+int gs1_kind_of_gtin(const struct gs1_answer *answer) {
+    return (int)gs1_c_kind_of_gtin(answer ? answer : &no_answer);
+}
+
+size_t gs1_gtin_as(const struct gs1_answer *answer, uint32_t digits, uint8_t *out, size_t room) {
+    return gs1_c_gtin_as(answer ? answer : &no_answer, digits, OUT);
+}
+
+size_t gs1_unit(const uint8_t *ai, size_t length, uint8_t *out, size_t room) {
+    return gs1_c_unit(READ(uint8_t, ai, length), OUT);
+}
+
+static struct gs1_bytes bytes_at(struct gs1_bytes given) {
+    return given.at ? given : (struct gs1_bytes){(const uint8_t *)&none, 0};
+}
+
+int gs1_compose(const struct gs1_element *elements, size_t count, uint16_t year, struct gs1_answer *answer) {
+    /* One more than an answer has room for is refused like any number above. */
+    struct gs1_element some[49];
+    size_t few = !elements ? 0 : count < 49 ? count : 49;
+    for (size_t i = 0; i < few; i++) some[i] = (struct gs1_element){bytes_at(elements[i].ai), bytes_at(elements[i].value)};
+    return (int)gs1_c_compose(some, few, year, INTO(answer));
 }
 
 /* What is lent, with pointers to nothing in the place of null pointers. */

@@ -92,7 +92,7 @@ static size_t no_memory(uint8_t *out, size_t room) {
 WIDTHS(row) WIDTHS(row_elements) WIDTHS(find)
 DOTS(dots) DOTS(dots_elements) DOTS(find_dots)
 TEXT(date) TEXT(scan) TEXT(text) TEXT(text_elements)
-DIGITS(gtin) DIGITS(digit) DIGITS(title)
+DIGITS(gtin) DIGITS(digit) DIGITS(title) DIGITS(unit)
 LINE(format, (const struct gs1_answer *answer, uint32_t form, uint8_t *out, size_t room), answer, sizeof *answer, at, form)
 LINE(symbol, (uint32_t kind, const uint8_t *text, size_t length, uint16_t year, uint8_t *out, size_t room), text, length, kind, at, length, year)
 LINE(label, (uint32_t kind, const uint8_t *text, size_t length, uint16_t year, uint16_t module_dots, uint16_t width, uint16_t height, uint8_t *out, size_t room),
@@ -123,6 +123,14 @@ WRITTEN(scan_text) WRITTEN(link)
     }
 
 LINES(read_messages) LINES(read_gtins)
+
+LINE(gtin_as, (const struct gs1_answer *answer, uint32_t digits, uint8_t *out, size_t room), answer, sizeof *answer, at, digits)
+
+uint32_t gs1_c_kind_of_gtin(const struct gs1_answer *answer) {
+    begin();
+    const u64 at = given(answer, sizeof *answer);
+    return is_full ? 0 : Z_gs1Z_gs1_c_kind_of_gtin(&module, at);
+}
 
 size_t gs1_c_conflicts(const struct gs1_answer *answer, struct gs1_conflict *out, size_t room) {
     begin();
@@ -185,10 +193,31 @@ READ_TEXT(read_message) READ_TEXT(read_elements) READ_TEXT(read_gtin) READ_TEXT(
 ANSWER(read_row, (const uint16_t *widths, size_t count, uint16_t year, struct gs1_answer *answer), widths, (u64)count * 2, at, count, year)
 ANSWER(read_dots, (const uint8_t *bits, size_t bytes, uint32_t count, uint16_t year, struct gs1_answer *answer), bits, bytes, at, bytes, count, year)
 
-/* What the calls that draw labels are given, as the module has it: its pointers and sizes have 64 bits. */
+/* What structs with pointers are, as the module has them: its pointers and sizes have 64 bits. */
 struct items {
     u64 at, count;
 };
+
+static struct items items_of(struct gs1_bytes bytes) {
+    return (struct items){given(bytes.at, bytes.count), bytes.count};
+}
+
+uint32_t gs1_c_compose(const struct gs1_element *elements, size_t count, uint16_t year, struct gs1_answer *answer) {
+    struct items some[2 * 49];
+    begin();
+    for (size_t i = 0; i < count; i++) {
+        some[2 * i] = items_of(elements[i].ai), some[2 * i + 1] = items_of(elements[i].value);
+    }
+    const u64 at = given(some, count * 2 * sizeof *some), to = given(answer, sizeof *answer);
+    if (is_full) {
+        return GS1_FAULT_NO_MEMORY;
+    }
+    const uint32_t fault = Z_gs1Z_gs1_c_compose(&module, at, count, year, to);
+    memcpy(answer, memory->data + to, sizeof *answer);
+    return fault;
+}
+
+/* What the calls that draw labels are given. */
 struct font {
     struct items widths;
     uint16_t other, ascent, descent, digits;
@@ -202,7 +231,7 @@ static u64 article_of(const struct gs1_article *its) {
     const struct {
         struct items texts[9];
         uint32_t kind, bearers;
-    } article = {{{given(its->text.at, its->text.count), its->text.count}, letters_of(its->name), letters_of(its->price),
+    } article = {{items_of(its->text), letters_of(its->name), letters_of(its->price),
                   letters_of(its->old_price), letters_of(its->unit_price), letters_of(its->deposit), letters_of(its->best_before),
                   letters_of(its->batch), letters_of(its->lines)}, its->kind, its->bearers};
     return given(&article, sizeof article);

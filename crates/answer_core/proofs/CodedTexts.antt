@@ -1,8 +1,8 @@
 -- Elements in percent codes, cut at the signs of a link.
-use Rattle.std.proofs.Common.{◌≡◌, ◌∙◌, ◌&&◌, ◌||◌, ◌+◌, ◌<◌, ◌/◌, ◌%◌, ◌∷◌, ◌++◌, [], Bool, List, ap, ap₂, append_assoc, arith, eqb, false, inl, inr, length, map, not, refl, sym, true, ℕ}
+use Rattle.std.proofs.Common.{◌≡◌, ◌∙◌, ◌||◌, ◌<◌, ◌/◌, ◌%◌, ◌∷◌, ◌++◌, [], Bool, List, ap, ap₂, append_assoc, arith, false, inl, inr, length, map, not, refl, sym, true, ℕ}
 use Rattle.std.specs.Prelude.{◌==◌, codes}
 use Rattle.std.specs.Char.{is_ascii_digit, is_ascii_graphic, is_ascii_hexdigit}
-use Rattle.std.specs.List.{AllByRecursion, list_all, slice_split}
+use Rattle.std.specs.List.{AllByRecursion, list_all}
 use Rattle.std.specs.Str.{bytes_eq}
 use Rattle.std.proofs.lemmas.Bool.{and_from, and_parts, cases_Bool, cond_both, ne_eqb, or_left, true≢false}
 use Rattle.std.proofs.lemmas.Grind.{common_steps}

@@ -1,9 +1,9 @@
 -- Texts that are cut at a byte.
 use Rattle.std.proofs.Common.{◌≡◌, ◌∙◌, ◌+◌, ◌≤◌, ◌∷◌, ◌++◌, [], Bool, List, ap, append_assoc, arith, drop, false, inl, inr, length, refl, sym, take, true, ℕ}
-use Rattle.std.specs.List.{AllByRecursion, after_first, before_first, list_all, onto_first, position_or_len, slice_split}
+use Rattle.std.specs.List.{AllByRecursion, after_first, before_first, onto_first, position_or_len, slice_split}
 use Rattle.std.proofs.Math.Seq.{take-append_seam}
-use Rattle.std.proofs.lemmas.Bool.{and_parts, cases_Bool, ne_eqb, true≢false}
-use Rattle.std.proofs.lemmas.List.{append-nil, drop-drop, drop_all, drop_at, take-append-le, take_all}
+use Rattle.std.proofs.lemmas.Bool.{cases_Bool}
+use Rattle.std.proofs.lemmas.List.{drop-drop, drop_all, drop_at, take-append-le, take_all}
 use Rattle.std.proofs.lemmas.List.Elements.{All-from_recursion}
 use Rattle.std.proofs.lemmas.List.Splits.{slice_split-cons_no, slice_split-cons_yes, slice_split_at, slice_split_none}
 

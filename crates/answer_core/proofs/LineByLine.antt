@@ -1,5 +1,5 @@
 -- Lines one after another, and what is said of each.
-use Rattle.std.proofs.Common.{◌≡◌, ◌==◌, ◌∙◌, ◌+◌, ◌<◌, ◌∷◌, [], List, add-one, ap, arith, drop, inl, inr, length, refl, set, suc, sym, take, zero, ℕ}
+use Rattle.std.proofs.Common.{◌≡◌, ◌==◌, ◌∙◌, ◌+◌, ◌<◌, ◌∷◌, [], List, ap, arith, drop, inl, inr, length, refl, set, suc, sym, take, zero, ℕ}
 use Rattle.std.specs.List.{AllZip, onto_first, slice_split}
 use Rattle.std.specs.Str.Lines.{lines, lines_of_parts, strip_carriage_return}
 use Rattle.std.proofs.lemmas.Bool.{cases_Bool}

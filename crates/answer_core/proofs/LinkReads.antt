@@ -1,15 +1,14 @@
 -- A link is read as the elements that it was written of.
-use Rattle.std.proofs.Common.{◌≡◌, ◌⊎◌, ◌∙◌, Err, ◌&&◌, ◌||◌, ◌+◌, ◌*◌, ◌-◌, ◌<◌, ◌≤◌, ◌∷◌, ◌++◌, [], Bool, List, None, Ok, Option, Some, ap, ap₂, append_assoc, arith, cond, drop, eqb, false, get_or, inl, inr, length, length-append, length-drop, map, nat_le, not, refl, subst, suc, sym, take, true, zero, ℕ}
-use Rattle.std.specs.Prelude.{◌==◌, codes, option_map}
+use Rattle.std.proofs.Common.{◌≡◌, ◌⊎◌, ◌∙◌, Err, ◌&&◌, ◌||◌, ◌+◌, ◌-◌, ◌<◌, ◌≤◌, ◌∷◌, ◌++◌, [], Bool, List, None, Ok, Option, Some, ap, ap₂, append_assoc, arith, drop, false, get_or, inl, inr, length, length-append, map, nat_le, not, refl, subst, suc, sym, take, true, zero, ℕ}
+use Rattle.std.specs.Prelude.{◌==◌, codes}
 use Rattle.std.specs.Char.{is_ascii_digit, is_ascii_graphic, is_ascii_whitespace, to_ascii_lowercase}
 use Rattle.std.specs.List.{AllByRecursion, after_first, before_first, list_all}
-use Rattle.std.specs.Str.{IsTrimAsciiEnd, bytes_eq}
-use Rattle.std.proofs.lemmas.Bool.{and_from, and_left, and_parts, and_right, cases_Bool, cond_both, le-leb, ne_eqb, not-true, eqb-true, or_cases, or_left, or_right, true≢false}
+use Rattle.std.specs.Str.{bytes_eq}
+use Rattle.std.proofs.lemmas.Bool.{and_from, and_left, and_parts, and_right, cases_Bool, le-leb, ne_eqb, not-true, eqb-true, or_cases, or_left, or_right, true≢false}
 use Rattle.std.proofs.lemmas.Grind.{common_steps}
-use Rattle.std.proofs.lemmas.List.{append-nil, drop-append-le, get_or-append_right, take_all}
-use Rattle.std.proofs.lemmas.List.Folds.{list_all-append}
+use Rattle.std.proofs.lemmas.List.{append-nil, drop-append-le, get_or-append_right}
 use Rattle.element_core.specs.Elements.{Entry, IsElement, canonical, is_value_byte}
-use Rattle.element_core.specs.Pairs.{entries_fault, list_fault, or_else}
+use Rattle.element_core.specs.Pairs.{entries_fault, list_fault}
 use Rattle.element_core.specs.Table.{Row, every_row, families, first_families, greatest_of, last_families, least_of}
 use Rattle.element_core.specs.Terms.{Terms, rows_by}
 use Rattle.element_core.specs.declared.fault.ElementFault.{ElementFault}
@@ -25,13 +24,13 @@ use Rattle.message_core.specs.Coding.{is_coded}
 use Rattle.message_core.specs.Heads.{begins_with_eight, head_of, is_bare}
 use Rattle.message_core.specs.Keys.{is_key}
 use Rattle.message_core.specs.Laws.{CodesAreRead, KeyPartIs, StandInOrder, spread}
-use Rattle.message_core.specs.Links.{begins_any_case, begins_http, begins_https, begins_link, behind_scheme, entries_said, entries_said_by, fits, fits_all, fits_entry, front_of, has_host, host_and_path, host_of, is_plain, is_plain_name, is_uri, is_written, key_part, link_entries, link_said, link_said_by, name_of, parameters, path_entries, path_of, query_entries, query_of, segments, without_slash}
-use Rattle.message_core.specs.Messages.{IsMessage, Outcome}
+use Rattle.message_core.specs.Links.{begins_any_case, begins_http, begins_https, begins_link, behind_scheme, entries_said, fits, fits_all, fits_entry, front_of, has_host, host_and_path, host_of, is_plain, is_plain_name, is_uri, is_written, key_part, link_entries, link_said_by, parameters, path_of, query_entries, query_of, segments, without_slash}
+use Rattle.message_core.specs.Messages.{IsMessage}
 use Rattle.message_core.specs.declared.fault.MessageFault.TheVariants.{Elements, Kind}
 use Rattle.message_core.specs.declared.head.Head.TheVariants as head
 use Rattle.answer_core.specs.Laws.{LinkReads}
 use Rattle.answer_core.specs.Written.{Parted, Writing, checked_by, coded_elements, faultless_by, is_stem, link_by, parted, parted_text, stem_link}
-use Rattle.answer_core.proofs.CodedTexts.{ArePlain, EndsCoded, IsPlain, IsSign, IsWritten, both_written, coded_entry, elements_lack, elements_written, is_code_byte, lacks, name_is, parameter, path_ends, path_is, path_read, path_rest, path_segments, query_is, query_parameters, query_read, query_rest}
+use Rattle.answer_core.proofs.CodedTexts.{ArePlain, IsPlain, IsSign, IsWritten, both_written, coded_entry, elements_lack, elements_written, is_code_byte, lacks, name_is, parameter, path_ends, path_is, path_read, path_rest, path_segments, query_is, query_parameters, query_read, query_rest}
 use Rattle.answer_core.proofs.Cuts.{Behind, Lacks, before_at, before_none, before_same, behind, behind_at, behind_none, lacks_both}
 use Rattle.answer_core.proofs.Ends.{trimmed}
 use Rattle.answer_core.proofs.Moves.{IsParted, count_both, parted_is}

@@ -1,8 +1,8 @@
 -- Elements of the query of a link that go to its path.
-use Rattle.std.proofs.Common.{◌≡◌, ◌∙◌, ◌<◌, ◌≤◌, ◌∷◌, ◌++◌, [], List, None, Some, ap, ap₂, arith, get_or, length, map, refl, suc, sym, zero, ℕ}
+use Rattle.std.proofs.Common.{◌≡◌, ◌∙◌, ◌<◌, ◌≤◌, ◌∷◌, ◌++◌, [], List, None, Some, ap, ap₂, arith, length, map, refl, suc, sym, zero, ℕ}
 use Rattle.std.specs.Prelude.{slice_get, slice_index_or}
 use Rattle.std.specs.List.{remove}
-use Rattle.std.proofs.lemmas.List.{length-map, map-append}
+use Rattle.std.proofs.lemmas.List.{map-append}
 use Rattle.element_core.specs.Elements.{Entry}
 use Rattle.answer_core.specs.Written.{Parted, moved_at, moved_by}
 use Rattle.answer_core.specs.declared.place.Place.{Place}

@@ -1,5 +1,5 @@
 -- Elements in the order of a link.
-use Rattle.std.proofs.Common.{◌≡◌, ◌⊎◌, ◌∙◌, ◌+◌, ◌≤◌, ◌∷◌, ◌++◌, [], Bool, List, None, Option, Some, ap, arith, drop, false, inl, inr, length, refl, suc, sym, take, true, zero, ℕ}
+use Rattle.std.proofs.Common.{◌≡◌, ◌⊎◌, ◌∙◌, ◌+◌, ◌≤◌, ◌∷◌, ◌++◌, [], Bool, List, None, Option, Some, ap, arith, inl, inr, length, refl, suc, sym, true, zero, ℕ}
 use Rattle.std.specs.Prelude.{◌==◌, slice_get}
 use Rattle.std.specs.List.{filter, position_or_len, remove}
 use Rattle.std.proofs.lemmas.Bool.{cases_Bool, eqb-true, true≢false}
@@ -7,7 +7,7 @@ use Rattle.std.proofs.lemmas.Option.{none-some, same_Some}
 use Rattle.element_core.specs.Elements.{Entry}
 use Rattle.message_core.specs.Keys.{is_key, place_by}
 use Rattle.message_core.specs.Laws.{StandInOrder}
-use Rattle.answer_core.specs.Written.{Parted, is_at_place, is_key_entry, moved, moved_at, moved_by, parted, parted_by, qualifies, with_last, with_qualifiers}
+use Rattle.answer_core.specs.Written.{Parted, is_at_place, is_key_entry, moved, moved_by, parted, parted_by, qualifies, with_last, with_qualifiers}
 
 seen : {X : Type 0} (o : Option X) → (o ≡ None) ⊎ ((x : X) × (o ≡ Some x))
 seen None = inl refl

@@ -1,5 +1,5 @@
 -- A text of a scanner is read as the elements that it was written of.
-use Rattle.std.proofs.Common.{◌≡◌, ◌∙◌, ◌&&◌, ◌||◌, ◌+◌, ◌<◌, ◌∷◌, ◌++◌, [], Bool, Err, List, None, Ok, Option, Some, ap, arith, drop, false, inl, inr, length, length-append, map, refl, subst, sym, true, ℕ}
+use Rattle.std.proofs.Common.{◌≡◌, ◌∙◌, ◌||◌, ◌<◌, ◌∷◌, ◌++◌, [], Bool, Err, List, None, Ok, Option, Some, ap, arith, drop, false, inl, inr, length, length-append, refl, subst, sym, true, ℕ}
 use Rattle.std.specs.Prelude.{◌==◌}
 use Rattle.std.specs.Char.{is_ascii_whitespace}
 use Rattle.std.specs.List.{list_all}

@@ -1,7 +1,8 @@
--- Codes of countries (ISO 3166-1) and of currencies (ISO 4217), and the beginning of a GS1 Company Prefix. tables/ais makes the lists of
--- tables/ais.tsv and tables/codes.tsv.
+-- Codes of countries (ISO 3166-1) and of currencies (ISO 4217), the beginning of a GS1 Company Prefix, and GTINs of trade items. tables/ais makes
+-- the lists of tables/ais.tsv and tables/codes.tsv.
 use Rattle.std.specs.Prelude.{ℕ, Bool, false, ◌&&◌, List, [], ◌∷◌, Option, Some, None, bytes_eq, codes, take, if◌then◌else◌}
 use Rattle.element_core.specs.Elements.{is_digit}
+use Rattle.answer_core.specs.GtinKinds.{no_item}
 use Rattle.answer_core.specs.Listed.{is_listed}
 use Rattle.answer_core.specs.declared.code.Coding.{Coding}
 use Rattle.answer_core.specs.declared.code.Coding.TheVariants as coding
@@ -19,7 +20,8 @@ coded_ais ais kind coding = record { ais = ais; kind = kind; coding = coding }
 
 unfoldable pub coded_list : List AisWithCodes
 coded_list =
-    coded_ais (codes "391n,393n") kind.Currency coding.Currency
+    coded_ais (codes "01,02,03,8006,8026") kind.TradeItem coding.Gtin
+    ∷ coded_ais (codes "391n,393n") kind.Currency coding.Currency
     ∷ coded_ais (codes "401") kind.CompanyPrefix coding.Prefix
     ∷ coded_ais (codes "421,422,424,426") kind.Country coding.Country
     ∷ coded_ais (codes "423,425") kind.Country coding.Countries
@@ -66,3 +68,4 @@ unknown_code coding.CountryOrSeveral value = if bytes_eq (take 3 value) (codes "
 unknown_code coding.CountryLetters value = unlisted value country_letters
 unknown_code coding.Currency value = unlisted (take 3 value) currencies
 unknown_code coding.Prefix value = if are_four_digits (take 4 value) then [] else take 4 value
+unknown_code coding.Gtin value = no_item value

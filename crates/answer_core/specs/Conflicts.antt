@@ -9,7 +9,7 @@ use Rattle.answer_core.specs.Listed.{is_listed}
 use Rattle.answer_core.specs.declared.code.Coding.{Coding}
 use Rattle.answer_core.specs.declared.conflict.Conflict.{Conflict}
 use Rattle.answer_core.specs.declared.conflict.ConflictKind.{ConflictKind}
-use Rattle.answer_core.specs.declared.conflict.ConflictKind.TheVariants.{Needs, Excludes, Differs, Country, Currency, CompanyPrefix}
+use Rattle.answer_core.specs.declared.conflict.ConflictKind.TheVariants.{Needs, Excludes, Differs, Country, Currency, CompanyPrefix, TradeItem}
 
 -- the number of a kind of conflict
 abbrev pub conflict_number : ConflictKind → ℕ
@@ -19,6 +19,7 @@ conflict_number Differs = 3
 conflict_number Country = 4
 conflict_number Currency = 5
 conflict_number CompanyPrefix = 6
+conflict_number TradeItem = 7
 
 -- a conflict of the element of an index with that of another, 255 for none; at most 44 signs of a text stand before zeros
 abbrev pub conflict : ConflictKind → ℕ → ℕ → List ℕ → Conflict

@@ -2,9 +2,12 @@
 pub mod Answers
 pub mod Associations
 pub mod Codes
+pub mod Composed
 pub mod Conflicts
 pub mod Formats
 pub mod Gaps
+pub mod GtinForms
+pub mod GtinKinds
 pub mod Laws
 pub mod Lines
 pub mod Listed
@@ -17,5 +20,6 @@ pub mod Refusals
 pub mod Rows
 pub mod Symbols
 pub mod Texts
+pub mod Units
 pub mod Written
 pub mod inner

@@ -1,4 +1,4 @@
--- Where the numbers of values stand (GS1 General Specifications, sections 3.6 and 3.7).
+-- Where the numbers of values stand (GS1 General Specifications, sections 3.6, 3.7 and 3.9).
 use Rattle.std.specs.Prelude.{ℕ, Bool, ◌==◌, ◌&&◌, ◌||◌, ◌+◌, ◌-◌, List, [], ◌∷◌, Option, Some, None, if◌then◌else◌}
 use Rattle.std.specs.Int.{is_in_range}
 use Rattle.element_core.specs.Elements.{is_digit}
@@ -16,10 +16,13 @@ abbrev pub number_by : ℕ → ℕ → ℕ → Option (ℕ × ℕ)
 number_by b c d =
     if is_digit d then (if is_measured b c then Some (0, d - 48) else if is_behind_currency b c then Some (3, d - 48) else None) else None
 
--- the place of the number in the values of an AI, if they have one: a count of 30 and 37 has no decimals
+-- the place of the number in the values of an AI, if they have one: a count of 30 and 37 has no decimals, and of 8005, the price
+-- of a unit, the standard does not say how many it has
 abbrev pub number_at : List ℕ → Option (ℕ × ℕ)
 number_at (a ∷ b ∷ []) = if (a == 51) && ((b == 48) || (b == 55)) then Some (0, 0) else None
-number_at (a ∷ b ∷ c ∷ d ∷ []) = if a == 51 then number_by b c d else None
+number_at (a ∷ b ∷ c ∷ d ∷ []) =
+    if a == 51 then number_by b c d
+    else if (a == 56) && ((b == 48) && ((c == 48) && (d == 53))) then Some (0, 0) else None
 number_at _ = None
 
 -- the index of the number in a text, in a value that begins here; 255 if it has none

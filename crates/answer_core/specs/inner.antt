@@ -4,7 +4,9 @@ pub mod Associations
 pub mod Codes
 pub mod Conflicts
 pub mod Formats
+pub mod GtinKinds
 pub mod Numbers
 pub mod Pairs
 pub mod Places
+pub mod Units
 pub mod Written

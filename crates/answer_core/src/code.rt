@@ -1,9 +1,10 @@
-//! Codes of countries and of currencies, and the beginning of a GS1 Company Prefix.
+//! Codes of countries and of currencies, the beginning of a GS1 Company Prefix, and GTINs of trade items.
 ghost use Rattle.std.specs.Prelude.{◌≡◌, map, take};
 ghost use Rattle.answer_core.specs.inner.Codes.{coded_of};
 ghost use Rattle.answer_core.specs.Codes.{are_four_digits, coded_list, coding_of, countries, country_letters, currencies, unknown_code, unknown_country, unlisted};
 
 use crate::conflict::ConflictKind;
+use crate::gtin_kind::no_item;
 use crate::listed::is_listed;
 
 /// Where a value has codes, and from which list (GS1 General Specifications, section 3).
@@ -21,6 +22,8 @@ pub(crate) enum Coding {
     Currency,
     /// A key that begins with a GS1 Company Prefix, of at least four digits.
     Prefix,
+    /// A GTIN, which begins the value.
+    Gtin,
 }
 
 /// AIs whose values have codes.
@@ -34,7 +37,8 @@ struct CodedAis {
 }
 
 #[rattlefmt::skip]
-const CODED: [CodedAis; 6] = [
+const CODED: [CodedAis; 7] = [
+    CodedAis { ais: b"01,02,03,8006,8026", kind: ConflictKind::TradeItem, coding: Coding::Gtin },
     CodedAis { ais: b"391n,393n", kind: ConflictKind::Currency, coding: Coding::Currency },
     CodedAis { ais: b"401", kind: ConflictKind::CompanyPrefix, coding: Coding::Prefix },
     CodedAis { ais: b"421,422,424,426", kind: ConflictKind::Country, coding: Coding::Country },
@@ -149,5 +153,6 @@ pub(crate) fn unknown_code(coding: Coding, value: &[u8]) -> &[u8]
         Coding::Currency => unlisted(number, currencies()),
         Coding::Prefix if are_four_digits(first(4, value)) => b"",
         Coding::Prefix => first(4, value),
+        Coding::Gtin => no_item(value),
     }
 }

@@ -31,10 +31,12 @@ pub enum ConflictKind {
     Currency,
     /// Its first four characters are not the beginning of a GS1 Company Prefix.
     CompanyPrefix,
+    /// Its GTIN identifies no trade item: it is that of a shop or a coupon, or zeros alone.
+    TradeItem,
 }
 
 impl ConflictKind {
-    /// Its number, 1 to 6.
+    /// Its number, 1 to 7.
     pub fn number(self) -> u8
         ensures { result ≡ conflict_number self }
     {

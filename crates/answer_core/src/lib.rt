@@ -6,12 +6,15 @@ mod association;
 mod buffer;
 mod code;
 mod coded;
+mod compose;
 mod conflict;
 mod cut;
 mod data;
 mod format;
 mod gap;
 mod gtin;
+mod gtin_forms;
+mod gtin_kind;
 mod laws;
 mod lines;
 mod listed;
@@ -25,11 +28,14 @@ mod read;
 mod row;
 mod symbol;
 mod text;
+mod unit;
 mod writing;
 
 pub use answer::Answer;
 pub use buffer::{put, put_both, put_refusal, put_words};
+pub use compose::Given;
 pub use conflict::{Conflict, ConflictKind};
+pub use gtin_kind::GtinKind;
 pub use laws::{
     answers_tell_one, lines_tell, link_reads, message_lines, printed_is_read, refused_lines,
     row_lines, scan_reads, string_lines,
@@ -39,3 +45,4 @@ pub use named::Day;
 pub use place::{MOST_ELEMENTS, Place};
 pub use row::dots_in;
 pub use symbol::SymbolKind;
+pub use unit::unit_of;

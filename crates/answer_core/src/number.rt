@@ -12,8 +12,8 @@ pub(crate) struct NumberPlace {
     pub decimals: u8,
 }
 
-/// The place of the number in the values of an AI, if they have one. Counts, measures, amounts and percentages do
-/// (GS1 General Specifications, sections 3.6 and 3.7).
+/// The place of the number in the values of an AI, if they have one. Counts, measures, amounts, percentages and the
+/// price of a unit do (GS1 General Specifications, sections 3.6, 3.7 and 3.9).
 pub(crate) fn number_at(ai: &[u8]) -> Option<NumberPlace>
     ensures value { option_map first_and_decimals result ≡ number_at ai.now }
     ensures short { IfSome result (λ p. p.first ≤ 3) }
@@ -36,6 +36,11 @@ pub(crate) fn number_at(ai: &[u8]) -> Option<NumberPlace>
         [b'3', b'9', b'1' | b'3', decimals @ b'0'..=b'9'] => Some(NumberPlace {
             first: 3,
             decimals: decimals - b'0',
+        }),
+        // The standard does not say how many decimals the price of a unit has.
+        b"8005" => Some(NumberPlace {
+            first: 0,
+            decimals: 0,
         }),
         _ => None,
     }

@@ -81,7 +81,7 @@ fn read_elements(marks: Marks, text: &[u8], terms: Year, pairs: &mut Pairs) -> O
 }
 
 /// Whether all bytes are zeros.
-fn are_zeros(digits: &[u8]) -> bool
+pub(crate) fn are_zeros(digits: &[u8]) -> bool
     ensures { result ≡ list_all (λ b. b == 48) digits.now }
 {
     digits.iter().all(|byte| *byte == b'0')
@@ -120,7 +120,7 @@ impl Answer {
     }
 
     /// Writes that a text is not printed in this way.
-    fn refuse_whole(&mut self, kind: RefusalKind)
+    pub(crate) fn refuse_whole(&mut self, kind: RefusalKind)
         ensures told { TellsRefusal kind None self.new }
         ensures kept { IsNamedAs self.old self.new }
     {

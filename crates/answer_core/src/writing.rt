@@ -182,7 +182,7 @@ fn put_stem_link(stem: &[u8], text: &[u8], places: &[Place], terms: Year, out: &
 
 impl Answer {
     /// The bytes of its text.
-    fn text_bytes(&self) -> &[u8]
+    pub(crate) fn text_bytes(&self) -> &[u8]
         ensures bytes { result.now ≡ take self.now.length self.now.text }
         ensures few { length result.now ≤ 192 }
     {
@@ -190,7 +190,7 @@ impl Answer {
     }
 
     /// The places of its elements.
-    fn places(&self) -> &[Place]
+    pub(crate) fn places(&self) -> &[Place]
         ensures places { result.now ≡ take self.now.count self.now.elements }
         ensures few { length result.now ≤ 48 }
     {

@@ -10,6 +10,7 @@
 #![tactic(auto)]
 
 ghost use Rattle.std.specs.Prelude.{◌≡◌, [], IsTrue, List, ℕ, codes, length, not};
+ghost use Rattle.answer_core.specs.Units.{unit_of};
 ghost use Rattle.digits_core.specs.Buffers.{IsPut};
 ghost use Rattle.element_core.specs.Lines.{IsDigitLine, gtin_line};
 ghost use Rattle.gs1_c.specs.Dates.{IsDateLine};
@@ -43,7 +44,7 @@ mod value;
 mod writing;
 
 use answer::{put_dots, put_row, put_text};
-use answer_core::{Answer, put};
+use answer_core::{Answer, put, unit_of};
 use buffer::{put_line, put_refusal, put_refused};
 use dates::put_date;
 use digits_core::RefusalKind;
@@ -345,4 +346,13 @@ pub extern "C" fn gs1_c_title(ai: &[u8], out: &mut [u8]) -> usize
     ensures { IsPut (title_of ai.now) out.old out.new result }
 {
     put(title_of(ai), out)
+}
+
+/// The unit of the numbers of an AI, in UTF-8 (GS1 General Specifications, section 3.6), as `kg` for `3103`. It has no
+/// bytes if they have none.
+#[unsafe(no_mangle)]
+pub extern "C" fn gs1_c_unit(ai: &[u8], out: &mut [u8]) -> usize
+    ensures { IsPut (unit_of ai.now) out.old out.new result }
+{
+    put(unit_of(ai), out)
 }

@@ -3,18 +3,21 @@
 //!
 //! A year that is no reference year is error 42 (`Words`). They write nothing behind the text and the elements of an
 //! answer.
-ghost use Rattle.std.specs.Prelude.{◌≡◌, ◌++◌, drop, length, min, take};
+ghost use Rattle.std.specs.Prelude.{◌≡◌, ◌++◌, drop, length, map, min, take};
+ghost use Rattle.answer_core.specs.Composed.{IsComposedAnswer, entry_given};
 ghost use Rattle.answer_core.specs.Conflicts.{conflicts};
 ghost use Rattle.answer_core.specs.Formats.{entries_in};
+ghost use Rattle.answer_core.specs.GtinForms.{gtin_in, short_gtin};
+ghost use Rattle.answer_core.specs.GtinKinds.{gtin_kind};
 ghost use Rattle.answer_core.specs.Reads.{IsDataAnswer, IsGtinAnswer, IsMessageAnswer, IsStringAnswer};
 ghost use Rattle.answer_core.specs.Rows.{IsDotsAnswer, IsWidthsAnswer};
 ghost use Rattle.answer_core.specs.Texts.{IsTextAnswer};
 ghost use Rattle.digits_core.specs.Buffers.{IsPut};
-ghost use Rattle.gs1_c.specs.Values.{IsAnsweredBy, form_numbered, line_by};
+ghost use Rattle.gs1_c.specs.Values.{IsAnsweredBy, form_numbered, kind_number, line_by};
 
 use crate::buffer::put_refused;
 use crate::terms::terms_of;
-use answer_core::{Answer, Conflict};
+use answer_core::{Answer, Conflict, Given};
 use digits_core::RefusalKind;
 use element_core::Form;
 
@@ -96,6 +99,39 @@ pub extern "C" fn gs1_c_read_dots(bits: &[u8], count: u32, year: u16, answer: &m
         None => answer.refuse_terms(),
     }
     u32::from(answer.fault)
+}
+
+/// Answers elements that are given: each an AI and a value. The place of an error is the index of its element.
+#[unsafe(no_mangle)]
+pub extern "C" fn gs1_c_compose(elements: &[Given], year: u16, answer: &mut Answer) -> u32
+    ensures told { IsAnsweredBy year (λ terms a. IsComposedAnswer terms (map entry_given elements.now) a) answer.new }
+    ensures fault { result ≡ answer.new.fault }
+{
+    match terms_of(year) {
+        Some(terms) => answer.compose(elements, terms),
+        None => answer.refuse_terms(),
+    }
+    u32::from(answer.fault)
+}
+
+/// The number of the kind of an answer's GTIN, by `GtinKind`; 0 if it has no GTIN. It accepts any bytes as an answer.
+#[unsafe(no_mangle)]
+pub extern "C" fn gs1_c_kind_of_gtin(answer: &Answer) -> u32
+    ensures { result ≡ kind_number (gtin_kind (gtin_in answer.now)) }
+{
+    match answer.gtin_kind() {
+        Some(kind) => u32::from(kind.number()),
+        None => 0,
+    }
+}
+
+/// An answer's GTIN as 8, 12, 13 or 14 digits; no bytes if it has none, or one that needs more digits. It accepts any
+/// bytes as an answer.
+#[unsafe(no_mangle)]
+pub extern "C" fn gs1_c_gtin_as(answer: &Answer, digits: u32, out: &mut [u8]) -> usize
+    ensures { IsPut (short_gtin digits (gtin_in answer.now)) out.old out.new result }
+{
+    answer.put_gtin(digits, out)
 }
 
 /// Reads the answer back from its line, with the elements as data, as `gs1_c_format` writes it. Any other text is

@@ -1,4 +1,4 @@
-use Rattle.std.proofs.Common.{◌∙◌, ◌≤◌, ◌++◌, arith, length, length-append, ◌+◌}
+use Rattle.std.proofs.Common.{◌∙◌, ◌++◌, arith, length-append}
 use Rattle.digits_core.proofs.Pasted.{pasted_next}
 use Rattle.answer_core.proofs.Formats.{at_front}
 use Rattle.answer_core.proofs.buffer.put_both.Goals as goal

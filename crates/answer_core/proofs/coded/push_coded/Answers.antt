@@ -1,4 +1,4 @@
-use Rattle.std.proofs.Common.{◌≡◌, ◌∙◌, ◌++◌, List, ap, length, sym, ℕ}
+use Rattle.std.proofs.Common.{◌∙◌, ◌++◌, ap, sym}
 use Rattle.std.proofs.lemmas.List.{append-nil}
 use Rattle.message_core.specs.Coding.{encoded}
 use Rattle.answer_core.specs.Written.{is_unreserved}

@@ -1,4 +1,4 @@
-use Rattle.std.proofs.Common.{◌≡◌, ◌∙◌, ◌++◌, ◌∷◌, List, ap, append_assoc, map, sym, ℕ}
+use Rattle.std.proofs.Common.{◌∙◌, ◌++◌, ◌∷◌, List, ap, append_assoc, map, sym, ℕ}
 use Rattle.message_core.specs.Coding.{encoded}
 use Rattle.answer_core.specs.Places.{entry_at}
 use Rattle.answer_core.specs.Written.{coded_elements, is_unreserved}

@@ -1,4 +1,4 @@
-use Rattle.std.proofs.Common.{◌≡◌, ◌≤◌, ◌+◌, ◌++◌, length, map, take}
+use Rattle.std.proofs.Common.{◌≡◌, ◌+◌, ◌++◌, length, map, take}
 use Rattle.element_core.specs.Pairs.{entries_of}
 use Rattle.answer_core.specs.Places.{entry_at}
 use Rattle.answer_core.proofs.writing.elements_at.Given as goal

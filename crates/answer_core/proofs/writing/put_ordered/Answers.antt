@@ -1,4 +1,4 @@
-use Rattle.std.proofs.Common.{◌≡◌, ◌∙◌, ◌++◌, List, None, ap, arith, length, length-append, map, sym}
+use Rattle.std.proofs.Common.{◌≡◌, ◌∙◌, ◌++◌, List, None, ap, arith, length-append, map, sym}
 use Rattle.std.proofs.lemmas.List.{length-map, map-append}
 use Rattle.element_core.specs.Elements.{Entry}
 use Rattle.element_core.specs.Pairs.{list_fault}

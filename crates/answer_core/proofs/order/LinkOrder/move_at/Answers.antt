@@ -1,5 +1,4 @@
-use Rattle.std.proofs.Common.{◌≡◌, ◌∙◌, ap, ap₂, arith, length, map, sym, List}
-use Rattle.element_core.specs.Elements.{Entry}
+use Rattle.std.proofs.Common.{arith}
 use Rattle.answer_core.specs.Places.{entry_at}
 use Rattle.answer_core.proofs.MovedPlaces.{moved_as, stays}
 use Rattle.answer_core.proofs.order.LinkOrder.move_at.Goals as goal
