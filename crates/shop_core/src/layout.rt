@@ -18,9 +18,6 @@ use std::num::{nearest_usize_to_f64, saturating_f64_to_u16};
 
 pub(crate) const LEAST_PRICE_MM: f64 = 2.6;
 
-/// How much of its room a price takes: quotients are rounded, and a price that is higher than its room is refused.
-const NEARLY_ALL: f64 = 0.999_999;
-
 /// A label while it is laid out.
 #[derive(Drop)]
 pub(crate) struct Sheet<'a> {
@@ -145,6 +142,33 @@ impl<'a> Sheet<'a> {
         Ok(at)
     }
 
+    /// The room between small texts beside each other, and how wide they are, in sizes.
+    fn row_widths(&self, smalls: &[Small]) -> (f64, f64, f64) {
+        let gap = 3.0 * self.plan.fonts.regular.width(&[32], 0, 1);
+        let gaps = gap * (nearest_usize_to_f64(smalls.len()) - 1.0).max(0.0);
+        let mut wide = 0.0;
+        for small in smalls {
+            let setting = self.regular(*small);
+            wide += setting.width(0, setting.text.len());
+        }
+        (gap, gaps, wide)
+    }
+
+    /// The size of small texts beside each other in one line.
+    fn row_size(&self, smalls: &[Small], sizes: Sizes) -> f64 {
+        let (_, gaps, wide) = self.row_widths(smalls);
+        between(sizes.smallest, self.room() / (wide + gaps), sizes.largest)
+    }
+
+    /// The height of a line of small texts beside each other.
+    pub(crate) fn row_height(&self, smalls: &[Small], sizes: Sizes) -> f64 {
+        if smalls.is_empty() {
+            0.0
+        } else {
+            self.plan.fonts.regular.line(self.row_size(smalls, sizes))
+        }
+    }
+
     /// Puts small texts beside each other in one line, and returns where it ends.
     pub(crate) fn put_row(
         &self,
@@ -153,17 +177,10 @@ impl<'a> Sheet<'a> {
         top: f64,
         sizes: Sizes,
     ) -> Result<f64, LabelFault> {
-        let gap = 3.0 * self.plan.fonts.regular.width(&[32], 0, 1);
-        let gaps = gap * (nearest_usize_to_f64(smalls.len()) - 1.0).max(0.0);
-        let mut wide = 0.0;
-        for small in smalls {
-            let setting = self.regular(*small);
-            wide += setting.width(0, setting.text.len());
-        }
-        let size = between(sizes.smallest, self.room() / (wide + gaps), sizes.largest);
+        let (gap, gaps, wide) = self.row_widths(smalls);
+        let size = self.row_size(smalls, sizes);
         let share = ((self.room() - gaps * size) / (wide * size)).min(1.0);
         let mut left = self.aside();
-        let mut end = top;
         for small in smalls {
             let setting = self.regular(*small);
             // A little more than its letters need, since sums are rounded.
@@ -181,10 +198,10 @@ impl<'a> Sheet<'a> {
                     lines: 1,
                 },
             );
-            end = end.max(small.put(parts, &block, column, top)?);
+            small.put(parts, &block, column, top)?;
             left += width + gap * size;
         }
-        Ok(end)
+        Ok(top + self.row_height(smalls, sizes))
     }
 
     pub(crate) fn name(&self, width: f64) -> Block<'a> {
@@ -196,11 +213,6 @@ impl<'a> Sheet<'a> {
             lines: if high < 60.0 { 2 } else { 3 },
         };
         self.bold(Field::Name).fitted(width, sizes)
-    }
-
-    /// The size at which the line of a price is as high as its room, or a little less.
-    pub(crate) fn size_in(&self, room: f64) -> f64 {
-        NEARLY_ALL * room / self.plan.fonts.bold.pitch()
     }
 
     pub(crate) fn price(&self, width: f64, largest: f64, smallest_mm: f64) -> Block<'a> {
@@ -297,7 +309,7 @@ impl<'a> Sheet<'a> {
             - top
             - self.smalls_height(smalls, column.width, sizes)
             - old.height();
-        let largest = self.common().beside.min(self.size_in(room));
+        let largest = self.common().beside.min(self.plan.fonts.bold.size_in(room));
         let price = self.price(column.width, largest, LEAST_PRICE_MM);
         if price.height() > room {
             return Err(LabelFault::NoPlace);

@@ -208,17 +208,32 @@ impl<'a> Font<'a> {
     }
 
     /// How far its letters reach above the baseline, in sizes.
-    pub(crate) fn rise(&self) -> f64 {
+    fn rise(&self) -> f64 {
         f64::from(self.ascent) / 16_384.0
     }
 
-    /// The distance of lines, in sizes.
-    pub(crate) fn pitch(&self) -> f64 {
-        (f64::from(self.ascent) + f64::from(self.descent)) / 16_384.0
+    /// How far its letters reach below the baseline, in sizes.
+    fn fall(&self) -> f64 {
+        f64::from(self.descent) / 16_384.0
+    }
+
+    /// The whole dots of a line of this size above its baseline.
+    pub(crate) fn upper(&self, size: f64) -> f64 {
+        (self.rise() * size).ceil()
+    }
+
+    /// The whole dots of a line of this size. Its baseline is between two rows, since programs put it there.
+    pub(crate) fn line(&self, size: f64) -> f64 {
+        self.upper(size) + (self.fall() * size).ceil()
+    }
+
+    /// A size at which a line is at most this high.
+    pub(crate) fn size_in(&self, high: f64) -> f64 {
+        (high - 2.0) / (self.rise() + self.fall())
     }
 
     fn check(&self) -> Result<(), LabelFault> {
-        if is_within(0.5, self.pitch(), 8.0) && self.digits > 0 {
+        if is_within(0.5, self.rise() + self.fall(), 8.0) && self.digits > 0 {
             Ok(())
         } else {
             Err(LabelFault::Measures)
@@ -378,16 +393,34 @@ impl<'a> Setting<'a> {
     /// The text in as few lines of this width as possible. It takes one more line only if the size would otherwise be
     /// below three quarters of the largest. Text that does not fit at the smallest size is cut.
     pub(crate) fn fitted(&self, width: f64, sizes: Sizes) -> Block<'a> {
+        self.fitted_in(width, f64::INFINITY, sizes)
+    }
+
+    /// The same in lines that together are at most this high, or in one line if two of the smallest size are higher.
+    pub(crate) fn fitted_in(&self, width: f64, high: f64, sizes: Sizes) -> Block<'a> {
+        let mut most = 1u8;
+        for count in 2..=sizes.lines.min(3) {
+            if f64::from(count) * self.font.line(sizes.smallest) <= high {
+                most = count;
+            }
+        }
+        let sizes = Sizes {
+            lines: most,
+            ..sizes
+        };
         if self.text.len() > MOST_LETTERS {
             return self.cut(width, sizes);
         }
-        for count in 1..=sizes.lines.min(3) {
-            let least = if count == sizes.lines {
+        for count in 1..=most {
+            let least = if count == most {
                 sizes.smallest
             } else {
                 sizes.smallest.max(0.75 * sizes.largest)
             };
-            if let Some(block) = self.in_lines(width, sizes.largest, least, count) {
+            let largest = sizes
+                .largest
+                .min(self.font.size_in(high / f64::from(count)));
+            if let Some(block) = self.in_lines(width, largest, least, count) {
                 return block;
             }
         }
@@ -423,7 +456,7 @@ impl<'a> Setting<'a> {
 impl<'a> Block<'a> {
     /// The height of its lines.
     pub(crate) fn height(&self) -> f64 {
-        nearest_usize_to_f64(self.lines.len()) * self.size * self.setting.font.pitch()
+        nearest_usize_to_f64(self.lines.len()) * self.setting.font.line(self.size)
     }
 
     /// The width of a line, with the ellipsis behind the last if it is cut.

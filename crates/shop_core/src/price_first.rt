@@ -14,6 +14,17 @@ use crate::symbol_parts::{GAP_MM, Rows};
 const LEAST_SIDE_MM: f64 = 8.0;
 
 impl<'a> Sheet<'a> {
+    /// The size at which a large price is as wide as its room.
+    fn widest_price(&self) -> f64 {
+        let text = self.item.article.text(Field::Price);
+        let share = if self.has(Field::OldPrice) {
+            0.66
+        } else {
+            0.99
+        };
+        self.room() * share / self.plan.fonts.bold.width(text, 0, text.len())
+    }
+
     /// Puts the price at the lower end of a band, as large as there is room, with the old price to the left of it.
     pub(crate) fn put_large_price(
         &self,
@@ -22,15 +33,9 @@ impl<'a> Sheet<'a> {
         bottom: f64,
     ) -> Result<(), LabelFault> {
         let room = bottom - top;
-        let font = self.plan.fonts.bold;
-        let text = self.item.article.text(Field::Price);
-        let share = if self.has(Field::OldPrice) {
-            0.66
-        } else {
-            0.99
-        };
-        let wide = self.room() * share / font.width(text, 0, text.len());
-        let price = self.price(self.room(), wide.min(self.size_in(room)), LEAST_PRICE_MM);
+        let wide = self.widest_price();
+        let largest = wide.min(self.plan.fonts.bold.size_in(room));
+        let price = self.price(self.room(), largest, LEAST_PRICE_MM);
         if price.height() > room {
             return Err(LabelFault::NoPlace);
         }
@@ -72,15 +77,19 @@ impl<'a> Sheet<'a> {
         }
     }
 
-    /// Puts the name at the upper end, and returns where it ends.
-    fn put_large_name(&self, parts: &mut Parts) -> Result<f64, LabelFault> {
+    /// Puts the name at the upper end, and returns where it ends. It leaves enough of this height for a price that is
+    /// larger than the name, or as large as its width allows.
+    fn put_large_name(&self, parts: &mut Parts, high: f64) -> Result<f64, LabelFault> {
         let largest = between(2.6, 0.13 * self.high_mm(), 22.0) * self.dots();
         let sizes = Sizes {
             largest,
             smallest: 0.55 * largest,
             lines: 2,
         };
-        let block = self.bold(Field::Name).fitted(self.room(), sizes);
+        let price = self.widest_price().min(1.2 * largest);
+        let name = self.bold(Field::Name);
+        let room = high - name.font.line(price);
+        let block = name.fitted_in(self.room(), room, sizes);
         let column = self.across(Align::Left);
         whole(Field::Name).put(parts, &block, column, self.plan.look.above)
     }
@@ -91,7 +100,6 @@ impl<'a> Sheet<'a> {
         let look = &self.plan.look;
         let dots = self.dots();
         let high = self.high_mm();
-        let top = self.put_large_name(parts)?;
         let kind = self.item.article.label.kind();
         let bars = self.bars(between(6.0, 0.24 * high, bars_mm(kind)) * dots);
         let strip = bars + self.under_height(&self.under()) + 2.0 * self.bearer();
@@ -109,20 +117,13 @@ impl<'a> Sheet<'a> {
         };
         let small = between(2.0, 0.075 * high, 9.0) * dots;
         let (count, sizes) = self.beside(column.width, strip, small);
-        let needed = self.smalls_height(self.first(count), column.width, sizes);
-        self.put_smalls(
-            parts,
-            self.first(count),
-            column,
-            self.bottom() - needed,
-            sizes,
-        )?;
-        let top = self.put_row(
-            parts,
-            self.others(count),
-            top,
-            small_sizes(small, small.min(1.5 * dots)),
-        )?;
+        let (first, others) = (self.first(count), self.others(count));
+        let row = small_sizes(small, small.min(1.5 * dots));
+        let band = bottom - look.above - self.row_height(others, row);
+        let top = self.put_large_name(parts, band)?;
+        let needed = self.smalls_height(first, column.width, sizes);
+        self.put_smalls(parts, first, column, self.bottom() - needed, sizes)?;
+        let top = self.put_row(parts, others, top, row)?;
         self.put_large_price(parts, top, bottom)?;
         self.put_symbol(parts, left, bottom, bars)
     }

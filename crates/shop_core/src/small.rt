@@ -55,11 +55,8 @@ impl Small {
         let font = block.setting.font;
         let wide = block.line_width(number);
         let start = column.start(wide);
-        let lower = upper + font.pitch() * block.size;
-        // Letters that lie between the whole dots of the part.
-        let high = lower.floor() - upper.floor();
-        let size = block.size.min(high / font.pitch());
-        if !(size >= 1.0) {
+        let lower = upper + font.line(block.size);
+        if !(block.size >= 1.0) {
             return Err(LabelFault::NoPlace);
         }
         let run = Run {
@@ -69,9 +66,9 @@ impl Small {
             is_cut: block.is_cut_line(number),
             is_bold: block.setting.is_bold,
             is_struck: self.field.is_old(),
-            size: fine(size),
+            size: fine(block.size),
             left: fine(start),
-            base: fine(upper.floor() + font.rise() * size),
+            base: fine(upper.floor() + font.upper(block.size)),
             step: 0,
         };
         add(

@@ -60,6 +60,8 @@ impl<'a> Sheet<'a> {
         let rise = f64::from(font.digits) / 16_384.0;
         let fitting = 6.7 * module / font.width(&[48], 0, 1);
         let size = (11.8 * module).min(fitting).min(8.8 * module / rise);
+        // Round digits reach a little below their baseline.
+        let base = (bottom - 0.015 * size).floor();
         for (first, count, at, cell) in groups(self.item.article.label.kind()) {
             let wide = f64::from(*cell) * module;
             let own = size * (f64::from(*cell) / 7.0).min(1.0);
@@ -73,8 +75,7 @@ impl<'a> Sheet<'a> {
                 is_struck: false,
                 size: fine(own),
                 left: fine(left),
-                // Round digits reach a little below their baseline.
-                base: fine(bottom - 0.015 * own),
+                base: fine(base),
                 step: fine(wide),
             };
             let right = left + f64::from(*count) * wide;
@@ -82,7 +83,7 @@ impl<'a> Sheet<'a> {
                 parts,
                 part(
                     left,
-                    bottom - rise * own,
+                    base - rise * own,
                     right,
                     bottom.ceil(),
                     Ink::Letters(run),

@@ -125,6 +125,44 @@ fn a_label_shows_its_article(rt: HostRuntime) {
     }
 }
 
+/// Whether an ellipsis follows letters of a field.
+fn goes_on(drawing: &Drawing, field: Field) -> bool {
+    for part in drawing.parts.as_slice() {
+        if let Ink::Letters(run) = part.ink {
+            if run.field == field && run.is_cut {
+                return true;
+            }
+        }
+    }
+    false
+}
+
+#[test]
+fn a_long_name_is_cut_on_low_labels_and_the_price_is_whole(rt: HostRuntime) {
+    let many = [65u32; 200];
+    let texts = Texts {
+        name: &many,
+        price: PRICE,
+        ..NONE
+    };
+    // 19, 20 and 25 mm.
+    for height in [152, 160, 200] {
+        let look = Look {
+            height,
+            aside: 9.6,
+            above: 9.6,
+            ..LOOK
+        };
+        let drawn = ean13(texts, look);
+        assert!(rt; drawn.is_ok());
+        if let Ok(drawing) = drawn {
+            assert!(rt; shown(&drawing, Field::Name) >= 30);
+            assert!(rt; goes_on(&drawing, Field::Name));
+            assert_eq!(rt; shown(&drawing, Field::Price), 4);
+        }
+    }
+}
+
 #[test]
 fn what_has_no_label_is_refused_by_name(rt: HostRuntime) {
     let long = [57u32; 40];
