@@ -6,7 +6,7 @@ cd "$(dirname "$self")"
 
 build() {
     NORILADLE_ANEW=1 ./gs1_hub --version
-    python/build
+    bindings/python/build
     page/build
 }
 

@@ -1,9 +1,9 @@
 """Times read_picture on pictures of 1,600 by 1,200 pixels, and on noise of 8,000 by 8,000: the least processor time of five runs, and how
 many symbols it finds.
 
-Usage: PYTHONPATH=python /usr/bin/python3 bench/pictures.py
+Usage: PYTHONPATH=bindings/python /usr/bin/python3 bench/pictures.py
 
-Needs what python/build makes, and: apt-get install python3-numpy python3-pil
+Needs what bindings/python/build makes, and: apt-get install python3-numpy python3-pil
 """
 import time
 

@@ -1,6 +1,6 @@
 """The files of the program and of the library: those of release/, or others that the Rattle kit builds; and what everything else is made of.
 
-The scripts of package/, embed/, page/, python/ and npm/ that build something use it, and so do ./gs1_hub and ./noriladle at first use.
+The scripts of package/, bindings/embed/, page/, bindings/python/ and bindings/npm/ that build something use it, and so do ./gs1_hub and ./noriladle at first use.
 """
 from __future__ import annotations
 
@@ -21,7 +21,7 @@ from typing import Callable, Dict, List, Tuple
 ROOT = Path(__file__).resolve().parent.parent
 VERSION = (ROOT / "VERSION").read_text("ascii").strip()
 SONAME = "libgs1.so.1"
-"""By this name programs find the library; embed/link gives it. Its number changes only when a call does, so it is not that of the version."""
+"""By this name programs find the library; bindings/embed/link gives it. Its number changes only when a call does, so it is not that of the version."""
 NO_INPUT, NO_FILE, NO_ROOM = 64, 69, 73
 """The statuses of the scripts: no such name, no file, no room or right to put it there."""
 _LOWER = ("--enable-memory64", "--memory64-lowering", "--enable-bulk-memory", "--enable-sign-ext", "--enable-mutable-globals")
@@ -123,7 +123,7 @@ def built(name: str) -> bytes:
         raise NoFile(f"there is no {name}", NO_INPUT)
     _run("package/prove", crate, target)
     path = ROOT / "crates" / crate / "out" / target / made
-    step = {"libgs1.a": "embed/archive", "libgs1.so": "embed/link"}.get(file)
+    step = {"libgs1.a": "bindings/embed/archive", "libgs1.so": "bindings/embed/link"}.get(file)
     if not step:
         return path.read_bytes()
     with tempfile.TemporaryDirectory() as folder:

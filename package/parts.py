@@ -73,17 +73,17 @@ def page_files(taken: Take = file_of) -> Files:
 
 
 def page_made(taken: Take = file_of) -> Files:
-    """The files of the page that are made: the module for browsers, also with addresses of 32 bits, and the numbers and texts of shop/."""
+    """The files of the page that are made: the module for browsers, also with addresses of 32 bits, and the numbers and texts of tables/shop/."""
     modules = {"GS1_WASM": taken("wasm64/gs1_c.wasm"), "GS1_WASM_32": taken("wasm32/gs1_c.wasm")}
     constants = "".join(_constant(name, data) for name, data in modules.items())
     # Without the blanks that only people need.
     told = {path.stem: json.dumps(json.loads(path.read_text("utf-8")), ensure_ascii=False, separators=(",", ":"))
-            for path in sorted((ROOT / "shop").glob("*.json"))}
+            for path in sorted((ROOT / "tables" / "shop").glob("*.json"))}
     # Files of languages have names of two letters.
     languages = "".join(f"TEXTS.{name} = {text};\n" for name, text in told.items() if len(name) == 2)
     others = "".join(f"const {name.upper()} = {text};\n" for name, text in told.items() if len(name) != 2)
     return {"gs1.module.js": f"// Made by page/build: the module of crates/gs1_c.\n{constants}".encode(),
-            "shop.js": f"// Made by page/build: the numbers and texts of shop/.\n{others}const TEXTS = {{}};\n{languages}".encode()}
+            "shop.js": f"// Made by page/build: the numbers and texts of tables/shop/.\n{others}const TEXTS = {{}};\n{languages}".encode()}
 
 
 def module_files(target: str) -> Files:
@@ -92,12 +92,12 @@ def module_files(target: str) -> Files:
     :raises NoFile: there is no library of these sources for this processor.
     """
     page = {f"page/{name}": data for name, data in page_files().items()}
-    return {**own_files(ROOT / "python" / "noriladle"), **module_made(target), **page}
+    return {**own_files(ROOT / "bindings" / "python" / "noriladle"), **module_made(target), **page}
 
 
 def module_made(target: str, taken: Take = file_of) -> Files:
-    """The files of the Python module that are made: the library, the texts of errors, and those of shop/."""
-    shop = {f"shop/{path.name}": path.read_bytes() for path in (ROOT / "shop").glob("*.json")}
+    """The files of the Python module that are made: the library, the texts of errors, and those of tables/shop/."""
+    shop = {f"shop/{path.name}": path.read_bytes() for path in (ROOT / "tables" / "shop").glob("*.json")}
     return {"libgs1.so": taken(f"{target}/libgs1.so"), "remedies.json": remedies("json"), **shop}
 
 
@@ -117,15 +117,15 @@ def npm_files() -> Files:
 
     :raises NoFile: there is no module of these sources.
     """
-    npm, page = ROOT / "npm", ROOT / "page"
+    npm, page = ROOT / "bindings" / "npm", ROOT / "page"
     own = {name: (npm / name).read_bytes() for name in ("index.js", "advice.js", "elements.js", "texts.js", "detector.js", "reader.js", "worker.js", "index.d.ts", "texts.d.ts", "detector.d.ts", "reader.d.ts",
                                                            "README.md")}
     scripts = "".join((page / f"{name}.js").read_text("utf-8").replace("// @ts-check\n", "", 1).replace('"use strict";\n', "", 1) for name in ("gs1", "picture", "ais", "values", "mending", "typed"))
     module, version = _constant("MODULE", file_of("wasm32/gs1_c.wasm")), f'"{VERSION} (sources {sum_of_sources()[:12]})"'
     return {**own, **licences(), **_texts_only(version), "remedies.js": remedies("js"),
             "package.json": (npm / "package.json").read_text("utf-8").replace("@VERSION@", VERSION).encode(),
-            "module.js": f"// The module of crates/gs1_c, with addresses of 32 bits. Made by npm/build.\nexport {module}export const VERSION = {version};\n".encode(),
-            "page.js": f"// The scripts of the page that ask the module, make the grey values of pictures, and say what values mean and what to do about errors. Made by npm/build.\n{scripts}"
+            "module.js": f"// The module of crates/gs1_c, with addresses of 32 bits. Made by bindings/npm/build.\nexport {module}export const VERSION = {version};\n".encode(),
+            "page.js": f"// The scripts of the page that ask the module, make the grey values of pictures, and say what values mean and what to do about errors. Made by bindings/npm/build.\n{scripts}"
                        f"{_NPM_EXPORT}".encode()}
 
 
@@ -137,7 +137,7 @@ def _texts_only(version: str) -> Files:
     symbols = re.search(r"static symbols = (\[[^]]*\]);", (ROOT / "page" / "gs1.js").read_text("utf-8"))
     assert symbols
     module = _constant("MODULE", gzipped(file_of("wasm32/gs1_texts.wasm")))
-    return {"texts.module.js": f"// What texts need of the module, packed by gzip. Made by npm/build.\nexport {module}export const VERSION = {version};\n"
+    return {"texts.module.js": f"// What texts need of the module, packed by gzip. Made by bindings/npm/build.\nexport {module}export const VERSION = {version};\n"
                                f"export const FAULTS = {json.dumps(faults)};\nexport const SYMBOLS = {symbols[1]};\n".encode()}
 
 

@@ -1,6 +1,6 @@
 // @ts-check
-// Reads prices as people write them, and formats them for print. shop/README.md has the rule. As
-// python/noriladle/_amounts.py.
+// Reads prices as people write them, and formats them for print. tables/shop/README.md has the rule. As
+// bindings/python/noriladle/_amounts.py.
 "use strict";
 
 /**

@@ -1,6 +1,6 @@
 // @ts-check
 // The articles of a list: what is printed on a label, and as which kind of barcode. As
-// python/noriladle/labels/_articles.py.
+// bindings/python/noriladle/labels/_articles.py.
 "use strict";
 
 // The kind of barcode for a GTIN of this many digits, and for a text with this identifier of a scanner, if the list

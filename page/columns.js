@@ -1,6 +1,6 @@
 // @ts-check
-// Finds what each column of a list is: by headings in the languages of shop/shop.json, or by the cells. As
-// python/noriladle/_columns.py.
+// Finds what each column of a list is: by headings in the languages of tables/shop/shop.json, or by the cells. As
+// bindings/python/noriladle/_columns.py.
 "use strict";
 
 /**

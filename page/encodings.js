@@ -1,6 +1,6 @@
 // @ts-check
-// Finds how the text of a list is encoded, by evidence. shop/encodings.json has the tables; shop/README.md has the
-// rule. As python/noriladle/_encodings.py.
+// Finds how the text of a list is encoded, by evidence. tables/shop has the tables and, in README.md, the rule. As
+// bindings/python/noriladle/_encodings.py.
 "use strict";
 
 /** @typedef {Set<string>} Letters */

@@ -18,7 +18,7 @@ class Gs1 {
     "Spent", "NoThread", "ReadFault", "WriteFault", "Csv", "Kind", "BadLane", "Words", "NoMemory", "InputSize"
   ];
 
-  // What is said of the identifiers of other symbols: keys of shop/. tables/remedies writes them.
+  // What is said of the identifiers of other symbols: keys of tables/shop/. tables/remedies writes them.
   static identifiers = {
     "]E1": "addOn", "]E2": "addOn", "]E3": "addOn", "]I0": "itfDigit", "]C0": "houseCode", "]e1": "composite", "]e2":
     "composite", "]e3": "composite"

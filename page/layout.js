@@ -11,7 +11,7 @@ const SIZES = {
   look: 96, font: 24, article: 152, letters: 16, measure: 12, plan: 48, part: 32, drawing: 24, row: 8192
 };
 
-// The errors of labels by their numbers in gs1.h, and their texts in shop/.
+// The errors of labels by their numbers in gs1.h, and their texts in tables/shop/.
 const SAID_OF_LABELS = { 53: "noBars", 54: "noPlace", 55: "noHeight", 56: "manyFurther" };
 
 // An empty label, and how much stays white at its sides, above and below. Lengths are dots.

@@ -1,6 +1,6 @@
 // @ts-check
 // Reads lists as people save and paste them, plain lines or the CSV of any spreadsheet, as records with line numbers.
-// It reads every list as python/noriladle/_lists.py does.
+// It reads every list as bindings/python/noriladle/_lists.py does.
 "use strict";
 
 // The most bytes of a list, and the delimiters of one with one cell a line and of a spreadsheet: characters that no
@@ -27,7 +27,7 @@ const MOST_CELL = 1000000, DELIMITERS = [WHOLE_LINES, ";", "\t", ",", "|"];
  * `lost` has the content of these lines, as far as it is known.
  * @typedef {{ delimiter: string, records: ListRecord[], faults: LineFault[], lost: ListRecord[] }} Sheet
  *
- * A text of shop/, by its name or number, with values: texts, numbers, lengths, other errors, or several ways out.
+ * A text of tables/shop by its name or number, with values: texts, numbers, lengths, other errors, or several ways out.
  * @typedef {{ key: string | number, values?: any[] }} Told
  *
  * An error with its line, counted from 1, and the line of the text.

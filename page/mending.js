@@ -1,11 +1,11 @@
 // @ts-check
-// What a number was meant to be, if somebody wrote it in another way. shop/README.md says the rule. As
-// python/noriladle/_mending.py.
+// What a number was meant to be, if somebody wrote it in another way. tables/shop/README.md says the rule. As
+// bindings/python/noriladle/_mending.py.
 "use strict";
 
 /**
- * What to do about a text: in words of shop/, and each number that may be put in its place. It is clear if the text
- * stands for that number alone.
+ * What to do about a text: in words of tables/shop/, and each number that may be put in its place. It is clear if the
+ * text stands for that number alone.
  * @typedef {Told & { fixes?: string[], isClear?: boolean }} Advice
  *
  * A number that digits may be: the name of what would be wrong with them, and the number.

@@ -1,6 +1,6 @@
 // @ts-check
 // Writes the numbers of spreadsheets in full, whatever their format shows, with what the format adds: zeros in front,
-// decimals, and a currency. As python/noriladle/_numbers.py.
+// decimals, and a currency. As bindings/python/noriladle/_numbers.py.
 "use strict";
 
 /**

@@ -1,5 +1,5 @@
 // @ts-check
-// Reads the sheets of an .ods file, OpenDocument (version 1.3, part 3, 9). As python/noriladle/_ods.py.
+// Reads the sheets of an .ods file, OpenDocument (version 1.3, part 3, 9). As bindings/python/noriladle/_ods.py.
 "use strict";
 
 const ODF = "urn:oasis:names:tc:opendocument:xmlns:";

@@ -1,6 +1,6 @@
 // @ts-check
-// Finds which heading of a list is the price on the shelf. shop/prices.json has the words; shop/README.md says the
-// rule. As python/noriladle/_prices.py.
+// Finds which heading of a list is the price on the shelf. tables/shop has the words and, in README.md, the rule. As
+// bindings/python/noriladle/_prices.py.
 "use strict";
 
 /**

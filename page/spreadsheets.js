@@ -1,6 +1,6 @@
 // @ts-check
 // Reads a spreadsheet's own file, .xlsx or .ods, by the browser's own parts. No CSV has its numbers in full. As
-// python/noriladle/_spreadsheets.py.
+// bindings/python/noriladle/_spreadsheets.py.
 "use strict";
 
 /**

@@ -1,7 +1,7 @@
 // @ts-check
 // Label stock: where labels lie on a sheet, or one after another on a roll, in millimetres. Known stock is in
-// shop/shop.json: columns, rows, width and height of labels, the gaps between them, and the page; for a roll only width
-// and height.
+// tables/shop/shop.json: columns, rows, width and height of labels, the gaps between them, and the page; for a roll only
+// width and height.
 "use strict";
 
 const STOCKS = { ...SHOP.sheets, ...SHOP.rolls };

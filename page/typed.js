@@ -1,6 +1,6 @@
 // @ts-check
 // Texts as people type and paste them: numbers, printed element strings, and what scanners send; and what to do about
-// those that are refused. As python/noriladle/_texts.py and _advice.py. The npm package has this too.
+// those that are refused. As bindings/python/noriladle/_texts.py and _advice.py. The npm package has this too.
 "use strict";
 
 const BRACKETED = { "(": /\(([0-9]{2,4})\)([^()]+)/g, "[": /\[([0-9]{2,4})\]([^\][]+)/g };

@@ -178,7 +178,7 @@ function elementsTable(elements) {
 
 // ---- faults
 
-// The text of an error, from shop/. Its values are texts, numbers, lengths, other errors, or several ways out.
+// The text of an error, from tables/shop/. Its values are texts, numbers, lengths, other errors, or several ways out.
 function faultText({ key, values = [] }) {
   const { faults, command } = TEXTS[language];
   return filledText(faults[key] ?? command[key] ?? TEXTS.en.faults[key] ?? String(key), values.map(valueText));

@@ -1,5 +1,6 @@
 // @ts-check
-// What the values of Application Identifiers say: numbers, units, codes and places. As python/noriladle/_values.py.
+// What the values of Application Identifiers say: numbers, units, codes and places. As
+// bindings/python/noriladle/_values.py.
 "use strict";
 
 // Of AIs from one to another each digit lies between those of the two.

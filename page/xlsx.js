@@ -1,5 +1,5 @@
 // @ts-check
-// Reads the sheets of an .xlsx file, Office Open XML (ECMA-376, part 1, 18). As python/noriladle/_xlsx.py.
+// Reads the sheets of an .xlsx file, Office Open XML (ECMA-376, part 1, 18). As bindings/python/noriladle/_xlsx.py.
 "use strict";
 
 /** @typedef {{ texts: string[], formats: Format[] }} SharedParts  what the cells of all sheets share */

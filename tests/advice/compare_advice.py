@@ -22,7 +22,7 @@ from typing import Any, Callable
 
 HERE = pathlib.Path(__file__).resolve().parent
 ROOT = HERE.parents[1]
-sys.path[:0] = [str(ROOT / "python"), str(HERE)]
+sys.path[:0] = [str(ROOT / "bindings" / "python"), str(HERE)]
 sys.dont_write_bytecode = True
 import noriladle  # noqa: E402
 from noriladle import Refusal
@@ -161,7 +161,7 @@ def listed(texts: list[str]) -> bytes:
 def of_commands(count: Count, refused: list[str]) -> None:
     """What `noriladle check` and `noriladle labels` print of texts that are refused."""
     refused = [text for text in refused if text.strip() and not re.search("[\r\n\0]", text)]
-    env = {**os.environ, "PYTHONPATH": str(ROOT / "python"), "LC_ALL": "C.UTF-8"}
+    env = {**os.environ, "PYTHONPATH": str(ROOT / "bindings" / "python"), "LC_ALL": "C.UTF-8"}
     told = subprocess.run([*COMMAND, "check", "--json", "--year", str(YEAR), "--column", "gtin=gtin"], input=listed(refused), capture_output=True, env=env, check=False)
     lines = [json.loads(line) for line in told.stdout.decode().splitlines()]
     for line in lines:
@@ -189,7 +189,7 @@ def of_scanner(count: Count, texts: list[str]) -> None:
     """What `noriladle scanner` prints of texts on a serial line."""
     ours, theirs = pty.openpty()
     tty.setraw(theirs)
-    env = {**os.environ, "PYTHONPATH": str(ROOT / "python")}
+    env = {**os.environ, "PYTHONPATH": str(ROOT / "bindings" / "python")}
     with subprocess.Popen([*COMMAND, "scanner", os.ttyname(theirs), "--year", str(YEAR)], stdout=subprocess.PIPE, bufsize=0, env=env) as scanner:
         # What comes before the line is set is lost.
         while not select.select([scanner.stdout], [], [], 0.5)[0]:
@@ -219,7 +219,7 @@ def of_pictures(count: Count, chance: random.Random) -> None:
             at = chance.randrange(10, 200)
             grey[:, at:at + chance.choice([3, 9, 40])] = chance.choice([0, 255])
             Image.fromarray(grey[:, chance.choice([0, 0, 30]):]).save(f"{folder}/{number}.png")
-        env = {**os.environ, "PYTHONPATH": str(ROOT / "python"), "LC_ALL": "C.UTF-8"}
+        env = {**os.environ, "PYTHONPATH": str(ROOT / "bindings" / "python"), "LC_ALL": "C.UTF-8"}
         told = subprocess.run([*COMMAND, "read", *sorted(map(str, pathlib.Path(folder).iterdir()))], capture_output=True, env=env, check=False).stderr.decode()
     for line in told.splitlines():
         count.look("read", OF_A_PICTURE, "", line.partition(": ")[2])

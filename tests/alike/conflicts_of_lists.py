@@ -21,7 +21,7 @@ from typing import Iterable, Iterator
 
 ROOT = pathlib.Path(__file__).resolve().parents[2]
 TABLES = ROOT / "tables"
-sys.path.insert(0, str(ROOT / "python"))
+sys.path.insert(0, str(ROOT / "bindings" / "python"))
 sys.dont_write_bytecode = True
 import noriladle
 

@@ -24,7 +24,7 @@ from typing import Any, Union
 from urllib.parse import quote
 
 ROOT = pathlib.Path(__file__).resolve().parents[2]
-sys.path.insert(0, str(ROOT / "python"))
+sys.path.insert(0, str(ROOT / "bindings" / "python"))
 sys.dont_write_bytecode = True
 import noriladle
 

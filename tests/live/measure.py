@@ -9,7 +9,7 @@
 
 Run it on an idle machine. It needs what tests/live/run needs. Say where program and module are:
 
-    GS1_HUB=$PWD/crates/gs1_hub/out/gs1_hub PYTHONPATH=$PWD/python tests/live/measure.py
+    GS1_HUB=$PWD/crates/gs1_hub/out/gs1_hub PYTHONPATH=$PWD/bindings/python tests/live/measure.py
 """
 from __future__ import annotations
 

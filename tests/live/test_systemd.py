@@ -26,7 +26,7 @@ def install(root: Path) -> None:
     """Puts in what the packages have, by package/build's own list."""
     modules = root / "usr/lib/python3/dist-packages/noriladle"
     shutil.rmtree(modules, ignore_errors=True)
-    shutil.copytree(ROOT / "python/noriladle", modules, ignore=shutil.ignore_patterns("__pycache__"))
+    shutil.copytree(ROOT / "bindings/python/noriladle", modules, ignore=shutil.ignore_patterns("__pycache__"))
     file: Any
     for file, into in [(ROOT / "package/noriladle", "usr/bin/noriladle"), (shutil.which(PROGRAM), "usr/bin/gs1_hub"),
                        (ROOT / "package/noriladle.sysusers", "usr/lib/sysusers.d/noriladle.conf"),

@@ -39,7 +39,7 @@ NEEDS_ROOT = pytest.mark.skipif(os.geteuid() != 0 or not os.path.exists("/dev/ne
 
 USERS, LIMITS, BAD_JOURNAL = "test_rights.py::test_users_and_groups", "test_limits.py", "test_journal.py::test_a_journal_that_was_changed"
 TILL_S_PASSWORD = "test_redis_bad.py::test_what_the_password_of_a_till_may_do"
-PAGE_COMMAND = "../../python/tests/test_page_command.py"
+PAGE_COMMAND = "../../bindings/python/tests/test_page_command.py"
 PLAYS = {
     "a scanner's cable or radio": {
         "type any text as a scan, and read each": "test_a_cable", "reach another lane": "test_a_cable", "make a wrong text a right one": "test_a_cable",

@@ -29,7 +29,7 @@ from pathlib import Path
 from typing import Dict, Iterator, List, Tuple
 
 ROOT = Path(__file__).resolve().parents[2]
-COPIED = ("python", "examples/till", "tests/live", "tests/page/browser.py", "bench/rows.py")
+COPIED = ("bindings/python", "examples/till", "tests/live", "tests/page/browser.py", "bench/rows.py")
 SECONDS = "100"
 EDIT = re.compile(r"edit: ([^\n]*)\ntest: ([^\n]*)\n(.*?)(?=\nedit: |\Z)", re.DOTALL)
 PAIR = re.compile(r"file: ([^\n]*)\nold: (.*?)\nnew: ?(.*?)(?=\nfile: |\s*\Z)", re.DOTALL)

@@ -1,5 +1,5 @@
 // Reads lists in Node as the page does: each JSON line of standard input has a list's bytes in base64, and gets a line with its articles and the
-// errors of its other lines, in the words of shop/en.json, or in those of the language that is the argument. PAGE may name another folder
+// errors of its other lines, in the words of tables/shop/en.json, or in those of the language that is the argument. PAGE may name another folder
 // with the page's scripts.
 "use strict";
 

@@ -17,7 +17,7 @@ import pictures
 from browser import Browser
 
 ROOT = os.path.dirname(os.path.dirname(os.path.dirname(os.path.abspath(__file__))))
-sys.path[:0] = [os.path.join(ROOT, "python"), os.path.join(ROOT, "tests", "pictures")]
+sys.path[:0] = [os.path.join(ROOT, "bindings", "python"), os.path.join(ROOT, "tests", "pictures")]
 from noriladle import picture
 from library import lines_of
 from other_readers import OTHERS

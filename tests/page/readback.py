@@ -13,7 +13,7 @@ import zipfile
 from typing import Sequence
 
 ROOT = os.path.dirname(os.path.dirname(os.path.dirname(os.path.abspath(__file__))))
-sys.path.insert(0, os.path.join(ROOT, "python"))
+sys.path.insert(0, os.path.join(ROOT, "bindings", "python"))
 import noriladle
 from PIL import Image, ImageDraw
 

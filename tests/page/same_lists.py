@@ -19,7 +19,7 @@ from typing import Any, Iterable, Iterator, Sequence
 
 ROOT = os.path.dirname(os.path.dirname(os.path.dirname(os.path.abspath(__file__))))
 LISTS = os.path.join(ROOT, "tests", "labels")
-sys.path[:0] = [os.path.join(ROOT, "python"), LISTS]
+sys.path[:0] = [os.path.join(ROOT, "bindings", "python"), LISTS]
 from damaged_lists import damaged
 from noriladle import Refusal, _shop
 from noriladle._columns import table_of

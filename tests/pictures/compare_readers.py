@@ -15,7 +15,7 @@ from concurrent.futures import Executor
 from typing import Iterable, Iterator, Sequence
 
 HERE = os.path.dirname(os.path.abspath(__file__))
-sys.path[:0] = [os.path.join(HERE, "..", "page"), os.path.join(HERE, "..", "..", "python")]
+sys.path[:0] = [os.path.join(HERE, "..", "page"), os.path.join(HERE, "..", "..", "bindings", "python")]
 import broken
 import hard_pictures
 import pictures

@@ -8,7 +8,7 @@ import time
 from typing import Sequence
 
 HERE = os.path.dirname(os.path.abspath(__file__))
-sys.path[:0] = [os.path.join(HERE, "..", "..", "python")]
+sys.path[:0] = [os.path.join(HERE, "..", "..", "bindings", "python")]
 from noriladle import Symbol, Symbols, picture
 
 _PART = 20

@@ -21,7 +21,7 @@ import time
 from typing import Any, Tuple
 
 ROOT = pathlib.Path(__file__).resolve().parents[2]
-COPIED = ["gs1_hub", "VERSION", "embed", "package/aarch64", *(f"package/{it}" for it in ("file", "files.py", "prove", "prove.mk", "release", "sources"))]
+COPIED = ["gs1_hub", "VERSION", "bindings/embed", "package/aarch64", *(f"package/{it}" for it in ("file", "files.py", "prove", "prove.mk", "release", "sources"))]
 VERSION = (ROOT / "VERSION").read_text(encoding="ascii").strip()
 
 # Programs that say which they are. Long enough that gzip writes several blocks of the file.

@@ -14,9 +14,9 @@ from typing import Iterator
 
 ROOT = pathlib.Path(__file__).resolve().parents[2]
 FILES = """
-    tables/kinds tables/kinds.tsv tests/commands/kinds.py crates/gs1_c/gs1.h python/noriladle/__init__.py python/noriladle/commands/labels.py
-    npm/index.d.ts page/gs1.js page/symbol.js tests/embed/library_calls.c tables/remedies.tsv crates/csv_records/src/print/labels.rt
-    npm/README.md python/README.md tests/alike/npm_answers.mjs
+    tables/kinds tables/kinds.tsv tests/commands/kinds.py crates/gs1_c/gs1.h bindings/python/noriladle/__init__.py bindings/python/noriladle/commands/labels.py
+    bindings/npm/index.d.ts page/gs1.js page/symbol.js tests/embed/library_calls.c tables/remedies.tsv crates/csv_records/src/print/labels.rt
+    bindings/npm/README.md bindings/python/README.md tests/alike/npm_answers.mjs
 """.split()
 
 # A seventh kind.
@@ -65,11 +65,11 @@ class KindsTest(unittest.TestCase):
     def test_nothing_is_written_if_a_list_is_not_there(self) -> None:
         with self.copied() as (copy, table):
             table.write_text(read(table) + JAN9, encoding="utf-8")
-            change(copy / "npm" / "README.md", "in Node and in the browser: ", "")
+            change(copy / "bindings" / "npm" / "README.md", "in Node and in the browser: ", "")
             before = [read(copy / file) for file in FILES]
             said = self.ran(copy)
             self.assertNotEqual(said.returncode, 0)
-            self.assertIn("npm/README.md: 0 lists", said.stderr)
+            self.assertIn("bindings/npm/README.md: 0 lists", said.stderr)
             self.assertEqual([read(copy / file) for file in FILES], before)
 
     def test_places(self) -> None:

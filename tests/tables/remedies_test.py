@@ -12,7 +12,7 @@ import unittest
 from pathlib import Path
 
 ROOT = pathlib.Path(__file__).resolve().parents[2]
-FILES = ["docs/FAULTS.md", "shop/en.json", "shop/de.json", "crates/gs1_hub/src/remedies.rt"]
+FILES = ["docs/FAULTS.md", "tables/shop/en.json", "tables/shop/de.json", "crates/gs1_hub/src/remedies.rt"]
 # That with the names alone.
 NAMES = "page/gs1.js"
 # What is replaced in the table, by what, and what is said then.

@@ -65,9 +65,9 @@ class Tree:
             os.makedirs(self.at("crates", name, "src"))
             self.write(self.at("crates", name, "src", "main.rt" if name in ("gs1_hub", "refused_memory") else "lib.rt"), "")
         os.mkdir(self.at("package"))
-        os.mkdir(self.at("embed"))
+        os.makedirs(self.at("bindings/embed"))
         shutil.copytree(os.path.join(ROOT, "package", "aarch64"), self.at("package", "aarch64"))
-        for name in ["crates.txt", "VERSION", "gs1_hub", "embed/archive", "embed/exports", "embed/gs1.c", *(f"package/{it}" for it in SCRIPTS)]:
+        for name in ["crates.txt", "VERSION", "gs1_hub", "bindings/embed/archive", "bindings/embed/exports", "bindings/embed/gs1.c", *(f"package/{it}" for it in SCRIPTS)]:
             shutil.copy(os.path.join(ROOT, name), self.at(name))
 
     def at(self, *parts: str) -> str:

@@ -12,7 +12,7 @@ use std::alloc::Global;
 use std::io::Cursor;
 
 /// How many bytes a command reads at most: `most_bytes` in specs/. The limit bounds the memory and the time of a
-/// command; tests/sizes/run prints both for inputs of this size. page/lists.js, python/noriladle/_lists.py,
+/// command; tests/sizes/run prints both for inputs of this size. page/lists.js, bindings/python/noriladle/_lists.py,
 /// tables/remedies.tsv, docs/HUB.md and tests/ repeat it.
 pub const INPUT_LIMIT: usize = 16_777_216;
 
