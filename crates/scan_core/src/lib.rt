@@ -38,4 +38,5 @@ pub use row_pool::RowPool;
 pub use runs::Runs;
 pub use search::SymbolSearch;
 pub use symbols::Symbols;
+pub use widths::WritesWidths;
 pub use window::Window;

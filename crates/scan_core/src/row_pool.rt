@@ -101,7 +101,15 @@ impl RowPool {
         ensures one { self.new ≤ self.old + 1 }
         ensures few { self.new ≤ 1024 }
     {
-        let kept = row.kept;
+        self.keep(row.kept);
+    }
+
+    /// The same of the content of a row.
+    pub(crate) fn keep(&mut self, kept: Box<Kept>)
+        ensures more { self.old ≤ self.new }
+        ensures one { self.new ≤ self.old + 1 }
+        ensures few { self.new ≤ 1024 }
+    {
         if self.rows.len() < self.rows.capacity().min(MOST_ROWS)
             && kept.widths.room() <= MANY_WIDTHS
         {

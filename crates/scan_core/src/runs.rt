@@ -1,5 +1,5 @@
 //! Rows of dots.
-ghost use Rattle.std.specs.Prelude.{[], Err, None, Some, false, ◌≡◌, ◌≢◌, ◌<◌, ◌≤◌, ◌+◌, ◌*◌, ◌↔◌, IfErr, IfOk, IfSome, IsErrOf, IsTrue, OnOk, length, nat_le, reverse, sum};
+ghost use Rattle.std.specs.Prelude.{[], Err, None, Some, false, ◌≡◌, ◌≢◌, ◌<◌, ◌≤◌, ◌+◌, ◌*◌, ◌↔◌, IfErr, IfOk, IfSome, List, IsErrOf, IsTrue, OnOk, length, nat_le, reverse, sum, ℕ};
 ghost use Rattle.std.specs.List.{list_all};
 ghost use Rattle.scan_core.specs.Bits.{dots_at};
 ghost use Rattle.scan_core.specs.Reading.{IsFound};
@@ -12,7 +12,7 @@ use crate::cut::cut_into;
 use crate::fault::{RowFault, RunFault};
 use crate::found::Found;
 use crate::row_pool::RowPool;
-use crate::widths::Widths;
+use crate::widths::{Widths, WritesWidths};
 use arrayvec::ArrayString;
 use element_core::Year;
 use std::alloc::Global;
@@ -106,6 +106,17 @@ pub(crate) fn runs_fault(widths: &[u16]) -> Option<RunFault>
     None
 }
 
+/// Why the widths, together at most 65,535 dots, are no row.
+fn narrow_fault(widths: &[u16]) -> Option<RunFault>
+    requires { sum widths.now ≤ 65535 }
+    ensures { result ≡ runs_fault widths.now }
+{
+    if widths.len() % 2 == 1 && have_dots(inner(widths)) {
+        return None;
+    }
+    Some(RunFault::BadRuns)
+}
+
 /// An empty row.
 pub(crate) fn new_kept(alloc: Global) -> Result<Box<Kept>, RunFault>
     ensures ok { IfOk result (λ kept. kept.value.is_read ≡ false) }
@@ -165,6 +176,33 @@ impl Runs {
                 Ok(Runs { kept })
             }
             Some(fault) => Err(fault),
+        }
+    }
+
+    /// The row of the widths that `writer` writes, in the memory of an earlier row if the pool has some. None if it
+    /// does not write them.
+    ///
+    /// The errors are those of `of_widths`.
+    pub fn written_by<W: WritesWidths>(
+        pool: &mut RowPool,
+        writer: &W,
+    ) -> Result<Option<Runs>, RunFault>
+        ensures ok { IfOk result (λ row. IfSome row (W.Writes writer.now)) }
+        ensures taken { IfOk result (λ row. IfSome row (λ r. runs_fault r ≡ None)) }
+        ensures refused { IfErr result (λ f. f ≢ RunFault.NoMemory
+            → (widths : List ℕ) × W.Writes writer.now widths × (runs_fault widths ≡ Some f)) }
+    {
+        let mut kept = pool.take_kept()?;
+        if !kept.widths.put_written(writer) {
+            pool.keep(kept);
+            return Ok(None);
+        }
+        match narrow_fault(kept.widths.as_slice()) {
+            None => Ok(Some(Runs { kept })),
+            Some(fault) => {
+                pool.keep(kept);
+                Err(fault)
+            }
         }
     }
 

@@ -1,5 +1,5 @@
 //! The widths of a row, without a memory block of their own if they are few.
-ghost use Rattle.std.specs.Prelude.{◌≡◌, ◌≤◌, ◌++◌, ◌∷◌, [], IfOk, OnErr, OnOk, length, reverse};
+ghost use Rattle.std.specs.Prelude.{◌≡◌, ◌≤◌, ◌++◌, ◌∷◌, [], IfOk, IfSome, List, OnErr, OnOk, length, reverse, sum, take, true, ℕ};
 
 use crate::cut::{NoRoom, RunList};
 use std::alloc::{AllocError, Global};
@@ -8,6 +8,20 @@ use std::mem;
 
 /// How many widths fit in without their own memory: most rows have fewer.
 pub(crate) const FEW: usize = 160;
+
+/// Writes the widths of a row into the row's own memory.
+pub trait WritesWidths {
+    // These are the widths that it writes.
+    ghost Writes: { Self → List ℕ → Type 0 };
+
+    /// Writes the widths, together at most 65,535 dots, to the first places. Returns how many they are; none if it
+    /// does not write them all.
+    fn write(&self, places: &mut [u16]) -> Option<usize>
+        ensures same { length places.new ≡ length places.old }
+        ensures within { IfSome result (λ count. count ≤ length places.new) }
+        ensures written { IfSome result (λ count. Writes self.now (take count places.new)) }
+        ensures narrow { IfSome result (λ count. sum (take count places.new) ≤ 65535) };
+}
 
 /// The widths of a row. Up to 160 are stored inline, so that a row is one block of memory; more have a block of their
 /// own.
@@ -106,6 +120,22 @@ impl Widths {
             widths
         } else {
             mem::replace(&mut self.many, widths)
+        }
+    }
+
+    /// Replaces the widths by those that this writes. Returns whether it writes them.
+    pub(crate) fn put_written<W: WritesWidths>(&mut self, writer: &W) -> bool
+        ensures written { result ≡ true → W.Writes writer.now self.new.list }
+        ensures narrow { result ≡ true → sum self.new.list ≤ 65535 }
+    {
+        self.many.clear();
+        self.count = 0;
+        match writer.write(&mut self.few) {
+            Some(count) => {
+                self.count = count;
+                true
+            }
+            None => false,
         }
     }
 

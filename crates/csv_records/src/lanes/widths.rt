@@ -3,11 +3,11 @@ ghost use Rattle.std.specs.Prelude.{None, Some, ◌==◌, ◌≡◌, ◌≤◌, 
 ghost use Rattle.std.specs.List.{count_by};
 ghost use Rattle.std.specs.Char.{is_ascii_digit};
 ghost use Rattle.csv_records.specs.inner.FrontWidths.{BeginsWithDigits, IsFirstWidth, capped, has_wide};
-ghost use Rattle.csv_records.specs.lanes.Widths.{number_in, are_widths, field_fault, widths_in, words_of};
+ghost use Rattle.csv_records.specs.lanes.Widths.{number_in, are_widths, field_fault, of_runs, widths_in, words_of};
 ghost use Rattle.csv_records.specs.declared.input.fault.RecordFault.{RecordFault};
 
 use crate::input::fault::{RecordFault, RecordRefusal};
-use crate::lanes::short_widths::read_short_widths;
+use crate::lanes::short_widths::ShortWidths;
 use scan_core::{RowPool, RunFault, Runs};
 
 /// The number of a text of one to `most` digits. `most` is at most 5, since the proof bounds the number by
@@ -166,29 +166,27 @@ fn read_any_widths(room: Vec<u16>, field: &[u8]) -> Result<(Vec<u16>, bool), Rec
     Ok((widths, is_wide))
 }
 
-/// The widths of a field, as `read_any_widths` reads them.
-fn read_widths(pool: &mut RowPool, field: &[u8]) -> Result<(Vec<u16>, bool), RecordRefusal>
-    ensures words { OnOk result (are_widths (words_of field.now) ≡ true) }
-    ensures widths { IfOk result (λ read. read.0.items ≡ capped (widths_in field.now)) }
-    ensures wide { IfOk result (λ read. read.1 ≡ has_wide (widths_in field.now)) }
-    ensures refused { (f : RecordFault) → result ≡ Err (RecordRefusal.Record f)
-        → field_fault field.now ≡ Some f }
+/// Why a record is refused whose widths are no row.
+fn refused(fault: RunFault) -> RecordRefusal
+    ensures record { (f : RecordFault) → result ≡ RecordRefusal.Record f → of_runs (Some fault) ≡ Some f }
+    ensures memory { fault ≡ RunFault.NoMemory → result ≡ RecordRefusal.NoMemory }
 {
-    let mut widths = pool.take_widths();
-    if read_short_widths(&mut widths, field)? {
-        return Ok((widths, false));
+    match fault {
+        RunFault::BadRuns => RecordRefusal::Record(RecordFault::BadRuns),
+        RunFault::TooWide => RecordRefusal::Record(RecordFault::TooWide),
+        RunFault::NoMemory => RecordRefusal::NoMemory,
     }
-    read_any_widths(widths, field)
 }
 
-/// The row of a field.
-pub fn read_runs(pool: &mut RowPool, field: &[u8]) -> Result<Runs, RecordRefusal>
+/// The row of a field, read word by word.
+fn read_any_runs(pool: &mut RowPool, field: &[u8]) -> Result<Runs, RecordRefusal>
     ensures ok { IfOk result (λ runs. runs ≡ widths_in field.now) }
     ensures taken { OnOk result (field_fault field.now ≡ None) }
     ensures refused { (f : RecordFault) → result ≡ Err (RecordRefusal.Record f)
         → field_fault field.now ≡ Some f }
 {
-    let (widths, is_wide) = read_widths(pool, field)?;
+    let room = pool.take_widths();
+    let (widths, is_wide) = read_any_widths(room, field)?;
     match Runs::from_widths(pool, widths) {
         Ok(runs) => {
             // `BadRuns` comes before `TooWide`, so only here is a wide width an error.
@@ -198,8 +196,20 @@ pub fn read_runs(pool: &mut RowPool, field: &[u8]) -> Result<Runs, RecordRefusal
                 Ok(runs)
             }
         }
-        Err(RunFault::BadRuns) => Err(RecordRefusal::Record(RecordFault::BadRuns)),
-        Err(RunFault::TooWide) => Err(RecordRefusal::Record(RecordFault::TooWide)),
-        Err(RunFault::NoMemory) => Err(RecordRefusal::NoMemory),
+        Err(fault) => Err(refused(fault)),
+    }
+}
+
+/// The row of a field.
+pub fn read_runs(pool: &mut RowPool, field: &[u8]) -> Result<Runs, RecordRefusal>
+    ensures ok { IfOk result (λ runs. runs ≡ widths_in field.now) }
+    ensures taken { OnOk result (field_fault field.now ≡ None) }
+    ensures refused { (f : RecordFault) → result ≡ Err (RecordRefusal.Record f)
+        → field_fault field.now ≡ Some f }
+{
+    match Runs::written_by(pool, &ShortWidths { field }) {
+        Ok(Some(runs)) => Ok(runs),
+        Ok(None) => read_any_runs(pool, field),
+        Err(fault) => Err(refused(fault)),
     }
 }
