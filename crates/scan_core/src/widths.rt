@@ -7,7 +7,7 @@ use std::marker::Model;
 use std::mem;
 
 /// How many widths fit in without their own memory: most rows have fewer.
-pub(crate) const FEW: usize = 160;
+pub(crate) const FEW: usize = 208;
 
 /// Writes the widths of a row into the row's own memory.
 pub trait WritesWidths {
@@ -23,7 +23,7 @@ pub trait WritesWidths {
         ensures narrow { IfSome result (λ count. sum (take count places.new) ≤ 65535) };
 }
 
-/// The widths of a row. Up to 160 are stored inline, so that a row is one block of memory; more have a block of their
+/// The widths of a row. Up to 208 are stored inline, so that a row is one block of memory; more have a block of their
 /// own.
 #[derive(Debug, Drop)]
 pub(crate) struct Widths {
@@ -44,7 +44,7 @@ impl Model for Widths {
       room = vec_capacity w.many;
     } };
 
-    ghost invariant = { λ w. w.count ≤ 160 };
+    ghost invariant = { λ w. w.count ≤ 208 };
 }
 
 impl Widths {
@@ -90,7 +90,7 @@ impl Widths {
 
     /// Replaces the widths by these.
     fn put_few(&mut self, widths: &[u16])
-        requires { length widths.now ≤ 160 }
+        requires { length widths.now ≤ 208 }
         ensures { self.new.list ≡ widths.now }
     {
         self.many.clear();
