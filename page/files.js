@@ -103,26 +103,33 @@ function joinedBytes(parts) {
 async function pngOfPage(page, stock, dpi) {
   const dots = DOTS_IN_MM[dpi],
     { canvas, pen } = canvasOf(Math.round(stock.page.width * dots), Math.round(stock.page.height * dots));
-  for (const { left, top, drawing } of page) {
-    pen.setTransform(1, 0, 0, 1, left, top);
-    for (const box of drawing.boxes) pen.fillRect(...box);
-    for (const text of drawing.texts) paintText(pen, text);
+  for (const placed of page) {
+    paintTexts(pen, placed);
+    for (const box of placed.drawing.boxes) pen.fillRect(...box);
   }
   return withResolution(new Uint8Array(await (await canvas.convertToBlob({ type: "image/png" })).arrayBuffer()), dpi);
 }
 
 // ---- ZPL
 
-// A label as ZPL: a box for each bar, and all texts as one field of dots, so it needs no font of the printer's.
-function zplOfLabel(drawing, { width, height }, copies) {
-  const boxes = drawing.boxes.map(([x, y, wide, high]) => `^FO${x},${y}^GB${wide},${high},${Math.min(wide, high)}^FS`);
-  return ["^XA", `^PW${width}`, `^LL${height}`, "^LH0,0", ...boxes, zplOfTexts(drawing.texts, width, height),
-    `^PQ${copies}`, "^XZ", ""].join("\n");
+// A label, or those of a row, as ZPL: a box for each bar, and all texts as one field of dots, so it needs no font of
+// the printer's.
+function zplOfPage(page, { width, height }, copies) {
+  const boxes = page.flatMap(({ left, top, drawing }) => drawing.boxes.map(([x, y, wide, high]) =>
+    `^FO${left + x},${top + y}^GB${wide},${high},${Math.min(wide, high)}^FS`));
+  return ["^XA", `^PW${width}`, `^LL${height}`, "^LH0,0", ...boxes, zplOfTexts(page, width, height), `^PQ${copies}`,
+    "^XZ", ""].join("\n");
 }
 
-function zplOfTexts(texts, width, height) {
+// Draws the texts of labels at their places.
+function paintTexts(pen, { left, top, drawing }) {
+  pen.setTransform(1, 0, 0, 1, left, top);
+  for (const text of drawing.texts) paintText(pen, text);
+}
+
+function zplOfTexts(page, width, height) {
   const { canvas, pen } = canvasOf(width, height), stride = (width + 7) >> 3, rows = [];
-  for (const text of texts) paintText(pen, text);
+  for (const placed of page) paintTexts(pen, placed);
   const pixels = new Uint32Array(pen.getImageData(0, 0, canvas.width, canvas.height).data.buffer);
   for (let y = 0; y < height; y++) {
     const row = new Uint8Array(stride);

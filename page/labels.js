@@ -3,7 +3,7 @@
 "use strict";
 
 // The sheet on show, what was made last, and how often.
-const shop = { page: 0, made: null, turns: 0, zoom: "fit" };
+const shop = { page: 0, made: null, turns: 0, zoom: "fit", hasEdges: false };
 
 // The most labels of a list, and the longest name of one that the sheet's text has.
 const MOST_LABELS = 10000, MOST_NAME_TOLD = 80, OUTPUTS = ["print", "pdf", "png", "svg", "zpl"];
@@ -14,9 +14,13 @@ const pause = () => new Promise((done) => setTimeout(done));
 
 function stockChosen() {
   if (at("stock").value !== "own") return stockOf(STOCKS[at("stock").value]);
-  const [columns, rows, width, height, gapX, gapY] = ["columns", "rows", "width", "height", "gap-x", "gap-y"]
-    .map((id) => at(`own-${id}`).value.replace(",", ".") || "0");
-  return stockOf(`${columns}x${rows}:${width}x${height}+${gapX}+${gapY}`);
+  const [columns, rows, width, height, gapX, gapY, left, top] =
+    ["columns", "rows", "width", "height", "gap-x", "gap-y", "left", "top"]
+      .map((id) => at(`own-${id}`).value.replace(",", "."));
+  const side = (count, length, gap) => places(count * length + (count - 1) * gap), page = at("own-page").value;
+  const told = page !== "roll" ? `${page}${left || top ? `/${left || 0}/${top || 0}` : ""}`
+    : `${side(+columns, +width, +gapX)}x${side(+rows, +height, +gapY)}`;
+  return stockOf(`${columns}x${rows}:${width}x${height}+${gapX || 0}+${gapY || 0}@${told}`);
 }
 
 const dpiFor = (stock) => Number(at("dpi").value) || (stock.isRoll ? 203 : 300);
@@ -87,16 +91,26 @@ function eachInTime(turn, from) {
 
 // ---- showing
 
-// The labels of a page, each at whole dots of it.
-function pageOf(number) {
-  const { stock, dpi, labels } = shop.made, dots = DOTS_IN_MM[dpi], first = stock.isRoll ? 0 : firstCell(), page = [];
-  for (let cell = 0; cell < stock.cells; cell++) {
-    const drawing = labels[number * stock.cells + cell - first];
-    if (!drawing || number * stock.cells + cell < first) continue;
+// A page with the drawing of each cell that has one, at whole dots.
+function pageWith({ stock, dpi }, drawingOf) {
+  const inDots = (length) => Math.round(length * DOTS_IN_MM[dpi]);
+  return Array.from({ length: stock.cells }, (_, cell) => {
     const { left, top } = stock.place(cell);
-    page.push({ left: Math.round(left * dots), top: Math.round(top * dots), drawing });
-  }
-  return page;
+    return { left: inDots(left), top: inDots(top), drawing: drawingOf(cell) };
+  }).filter(({ drawing }) => drawing);
+}
+
+function pageOf(number) {
+  const { stock, labels } = shop.made, before = number * stock.cells - (stock.isRoll ? 0 : firstCell());
+  return pageWith(shop.made, (cell) => labels[before + cell]);
+}
+
+// A page of the edges of all labels, to lay over the stock.
+function edgesPage(made) {
+  const { width, height, dots } = made.cell, thick = Math.max(1, Math.round(dots / 5));
+  const boxes = [[0, 0, width, thick], [0, height - thick, width, thick], [0, 0, thick, height],
+    [width - thick, 0, thick, height]];
+  return pageWith(made, () => ({ boxes, texts: [] }));
 }
 
 const pageCount =
@@ -135,11 +149,9 @@ function showSheet() {
   at("pager").hidden = count < 2;
   at("empty").hidden = labels.length > 0;
   at("sizes").textContent = stock.isRoll ? t("sizeRoll", mm(stock.width), mm(stock.height), dpi)
-    : t("sizeSheet", mm(stock.width), mm(stock.height), PAGE_NAMES[stock.page.name] ?? stock.page.name,
-      mm(stock.page.width), mm(stock.page.height), dpi);
+    : t("sizeSheet", mm(stock.width), mm(stock.height), t(`page-${stock.page.name}`), mm(stock.page.width),
+      mm(stock.page.height), dpi);
 }
-
-const PAGE_NAMES = { a4: "A4", letter: "Letter" };
 
 const mm = (length) => length.toLocaleString(language, { maximumFractionDigits: 1 });
 
@@ -177,14 +189,20 @@ function showWarnings() {
 
 const paper = new CSSStyleSheet();
 
-// Prints all pages, at the size of the stock.
+// Prints all pages, or that of the edges, at the size of the stock.
 function preparePrint() {
   document.body.classList.toggle("sheets", !at("labels").hidden);
   document.adoptedStyleSheets = at("labels").hidden ? [] : [paper];
   if (!shop.made?.isDone || at("labels").hidden) return;
-  const { stock, dpi } = shop.made;
+  const { stock, dpi } = shop.made, pages = shop.hasEdges ? [edgesPage(shop.made)] : allPages();
   paper.replaceSync(`@page { size: ${stock.page.width}mm ${stock.page.height}mm; margin: 0 }`);
-  at("printed").replaceChildren(...allPages().map((page) => svgElement(svgOfPage(page, stock, DOTS_IN_MM[dpi]))));
+  at("printed").replaceChildren(...pages.map((page) => svgElement(svgOfPage(page, stock, DOTS_IN_MM[dpi]))));
+}
+
+function printEdges() {
+  shop.hasEdges = true;
+  print();
+  shop.hasEdges = false;
 }
 
 // The pages as files: one as it is, several in a ZIP.
@@ -208,13 +226,16 @@ const SAVES = {
   svg: ({ stock, dpi }) =>
     savePages("svg", "image/svg+xml", (page) => new TextEncoder().encode(svgOfPage(page, stock, DOTS_IN_MM[dpi]))),
   png: ({ stock, dpi }) => savePages("png", "image/png", (page) => pngOfPage(page, stock, dpi)),
-  // One after another, each once, with its number of copies.
-  zpl: async ({ cell, labels }) => {
-    const drawings = [...new Set(labels)], parts = [];
-    for (const [i, drawing] of drawings.entries()) {
-      parts.push(zplOfLabel(drawing, cell, drawing.item.copies));
+  // One after another, each once, with its number of copies; or row by row, if a roll has several labels across.
+  zpl: async ({ stock, cell, labels }) => {
+    const { page: { width, height } } = stock, hasRows = stock.isRoll && stock.cells > 1;
+    const size = hasRows ? cellOf({ ...stock, width, height }, cell.dots) : cell, parts = [];
+    const forms = hasRows ? allPages()
+      : [...new Set(labels)].map((drawing) => [{ left: 0, top: 0, drawing }]);
+    for (const [i, page] of forms.entries()) {
+      parts.push(zplOfPage(page, size, hasRows ? 1 : page[0].drawing.item.copies));
       if (i % 20) continue;
-      note(t("savingLabel", i + 1, drawings.length));
+      note(t("savingLabel", i + 1, forms.length));
       await pause();
     }
     save(parts.join(""), "labels.zpl", "text/plain");
@@ -225,15 +246,19 @@ const SAVES = {
 // ---- start
 
 function fillStocks() {
-  const groups = { a4: make("optgroup"), letter: make("optgroup"), rolls: make("optgroup") },
+  const groups = { a4: make("optgroup"), letter: make("optgroup"), roll: make("optgroup") },
     chosen = at("stock").value || memory.get("stock");
   for (const [name, text] of Object.entries(STOCKS)) {
     const stock = stockOf(text), size = `${mm(stock.width)} × ${mm(stock.height)} mm`;
     const label = !stock.isRoll ? t("stockOption", size, stock.cells, name) : name === text ? size
       : `${size} · ${name}`;
-    groups[stock.isRoll ? "rolls" : stock.page.name].append(new Option(label, name));
+    groups[stock.page.name || "roll"].append(new Option(label, name));
   }
   for (const [name, group] of Object.entries(groups)) group.label = t(`group-${name}`);
+  const pages = [...Object.keys(SHOP.pages), "roll"].map((name) => new Option(t(`page-${name}`), name)),
+    page = at("own-page").value || "a4";
+  at("own-page").replaceChildren(...pages);
+  at("own-page").value = page;
   at("stock").replaceChildren(...Object.values(groups), new Option(t("ownSize"), "own"));
   at("stock").value = STOCKS[chosen] || chosen === "own" ? chosen : "3474";
 }
@@ -269,6 +294,7 @@ function listenToLabels() {
   for (const [id, saving] of Object.entries(SAVES))
     at(id).addEventListener("click", () => { document.saved = saving(shop.made); });
   at("print").addEventListener("click", () => print());
+  at("align").addEventListener("click", printEdges);
   addEventListener("beforeprint", preparePrint);
   addEventListener("afterprint", () => at("printed").replaceChildren());
 }

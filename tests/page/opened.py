@@ -83,7 +83,7 @@ def outputs(page: Browser | Firefox) -> Any:
     return page.value("""(async () => {
         const { stock, dpi, cell, labels } = shop.made, dots = DOTS_IN_MM[dpi], pages = allPages();
         const png = await pngOfPage(pages[0], stock, dpi), pdf = await pdfOf(pages, stock, dots);
-        const said = [...pages.map((one) => svgOfPage(one, stock, dots)), ...labels.map((one) => zplOfLabel(one, cell, one.item.copies))];
+        const said = [...pages.map((one) => svgOfPage(one, stock, dots)), ...labels.map((one) => zplOfPage([{ left: 0, top: 0, drawing: one }], cell, one.item.copies))];
         return [said.join('\\n'), ...[png, pdf].map((bytes) => Array.from(bytes, (byte) => String.fromCharCode(byte)).join(''))];
     })()""")
 

@@ -22,7 +22,7 @@ NAMES = ["Haferkekse", "Roggenbrot", "Apfelsaft 1 l", "Butter 250 g", "Blütenho
          "Cola 0,5 l", "Müsli Früchte „Großer Hof“, ungesüßt, 750 g", "Käse, jung, Scheiben, 48 % Fett i. Tr.", "Salz", "Öl"]
 # Columns, rows, the width and the height of a label, the gap between columns, the page, and the dots an inch: in mm, from the makers.
 STOCKS = {"3474": (3, 8, 70, 37, 0, (210, 297), 300), "L7160": (3, 7, 63.5, 38.1, 2.54, (210, 297), 300), "L7651": (5, 13, 38.1, 21.2, 2.54, (210, 297), 600),
-          "5160": (3, 10, 66.675, 25.4, 3.175, (215.9, 279.4), 300), "57x32": (1, 1, 57, 32, 0, (57, 32), 203.2)}
+          "5160": (3, 10, 66.675, 25.4, 3.175, (215.9, 279.4), 300), "57x32": (1, 1, 57, 32, 0, (57, 32), 203.2), "own": (2, 1, 50, 25, 2, (102, 25), 203.2)}
 
 
 def articles(count: int) -> list[tuple[str, str, str]]:

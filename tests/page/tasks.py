@@ -124,8 +124,30 @@ def labels(person: Person, stocks: Sequence[str]) -> None:
         if is_roll:
             zpl = files_of(person.saved("#zpl", "labels.zpl"))[0].decode()
             person.same("labels saved as ZPL", read_back(stock, pages_of_zpl(zpl), made), wanted)
+    two_across(person, made)
     person.chooses("stock", "3474")
     person.chooses("dpi", "0")
+
+
+def two_across(person: Person, made: list[tuple[str, str, str]]) -> None:
+    """A roll with two labels across, by its measures; and a page of edges."""
+    browser = person.browser
+    for name, value in (("stock", "own"), ("own-page", "roll"), ("dpi", "0")):
+        person.chooses(name, value)
+    for name, value in zip(("columns", "rows", "width", "height", "gap-x", "gap-y"), ("2", "1", "50", "25", "2", "0")):
+        browser.fill(f"#own-{name}", value)
+    person.waits("labels on a roll with two across", "sizes", person.page("sizeRoll", "50", "25", 203))
+    browser.value("document.made?.then(() => true)")
+    person.waits("how many they are", "labels-told", f"{person.page('labelCount', COUNT)} {person.page('onRoll')}")
+    zpl = files_of(person.saved("#zpl", "labels.zpl"))[0].decode()
+    person.same("rows of labels saved as ZPL", read_back("own", pages_of_zpl(zpl), made), f"noriladle {COUNT}, zbarimg {COUNT}")
+    if isinstance(browser, Firefox):
+        return  # It does not let a test take the place of its printing.
+    browser.value("(window.print = () => { preparePrint(); window.seen = document.querySelectorAll('#printed path').length; }, 1)")
+    browser.value("at('align').closest('details').open = true")
+    browser.click("#align")
+    person.same("the edges that are printed", browser.value("[window.seen, document.querySelector('#printed path').getAttribute('d').split('M').length - 1].join()"), "2,4")
+    browser.value("(document.getElementById('printed').replaceChildren(), 1)")
 
 
 def checks(person: Person) -> None:
@@ -227,8 +249,9 @@ def main() -> bool:
     with open(f"{WORK}/words.txt", "w", encoding="utf-8") as file:
         file.write("no picture\n")
     size: Any
-    chromium = [("Chromium, desk, English", "en", {"width": 1280, "height": 900}, list(STOCKS)), ("Chromium, telephone, German", "de", {"width": 390, "height": 844, "mobile": True}, ["57x32"])]
-    firefox = [("Firefox, desk, German", "de", {"width": 1280, "height": 900}, list(STOCKS)), ("Firefox, telephone, English", "en", {"width": 450, "height": 844}, ["3474"])]
+    known = [name for name in STOCKS if name != "own"]
+    chromium = [("Chromium, desk, English", "en", {"width": 1280, "height": 900}, known), ("Chromium, telephone, German", "de", {"width": 390, "height": 844, "mobile": True}, ["57x32"])]
+    firefox = [("Firefox, desk, German", "de", {"width": 1280, "height": 900}, known), ("Firefox, telephone, English", "en", {"width": 450, "height": 844}, ["3474"])]
     sheet = None
     for name, language, size, stocks in chromium + firefox:
         begun, is_firefox = time.time(), (name, language, size, stocks) in firefox

@@ -53,6 +53,16 @@ def test_wrong_words(words: list[str], said: str, capsys: pytest.CaptureFixture[
     assert told(words, capsys) == (2, "", said)
 
 
+@pytest.mark.parametrize("option, value", [
+    ("--module", "0.04"), ("--module", "nan"), ("--bars", "501"), ("--bars", "inf"), ("--dpi", "150"), ("--shift", "21,0"), ("--shift", "0,-21"),
+    ("--shift", "nan,0"), ("--darkness", "31"), ("--darkness", "-1"), ("--speed", "0"), ("--speed", "15"), ("--media", "tape"), ("--look", "large"),
+    ("--unit-price", "x"), ("--start", "x"), ("--year", "2150"),
+])
+def test_options_out_of_their_range(option: str, value: str, capsys: pytest.CaptureFixture[str]) -> None:
+    status, out, err = told(["labels", "a.csv", option, value], capsys)
+    assert (status, out) == (2, "") and err.startswith(f"noriladle labels: argument {option}: ")
+
+
 @pytest.mark.parametrize("name", [it.name for it in COMMANDS])
 def test_help_of_each_command(name: str, capsys: pytest.CaptureFixture[str]) -> None:
     status, out, err = told([name, "--help"], capsys)

@@ -92,7 +92,7 @@ def _shift(word: str) -> Tuple[float, float]:
         across, down = (float(part) for part in word.split(","))
     except ValueError:
         across = down = 1000.0
-    if max(abs(across), abs(down)) > 20:
+    if not (abs(across) <= 20 and abs(down) <= 20):
         raise argparse.ArgumentTypeError(translated("{0!r} is not two lengths of at most 20 mm, as 0.5,-1", word))
     return across, down
 

@@ -106,7 +106,7 @@ def stock_of(name: str) -> Stock:
         return _of_glabels(name)
     grids, sizes = zip(*(_grid(name, *found.groups()) for found in told))
     stock = Stock(float(told[0][3]), float(told[0][4]), sizes[0], grids)
-    if not stock.cells or min(stock.width, stock.height) < _LEAST or max(stock.page) > _MOST or {(it[3], it[4]) for it in told} != {told[0].group(3, 4)}:
+    if not all(it.columns * it.rows for it in grids) or min(stock.width, stock.height) < _LEAST or max(stock.page) > _MOST or {(it[3], it[4]) for it in told} != {told[0].group(3, 4)}:
         raise ValueError(translated("the stock {0!r} has no labels of {1:g} to {2:g} mm", name, _LEAST, _MOST))
     if min(stock.margins) < -0.01:
         sides = [localized(f"{side:g}") for side in stock.page]
