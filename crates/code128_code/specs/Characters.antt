@@ -2,7 +2,7 @@
 use Rattle.std.specs.Prelude.{ℕ, List, [], ◌∷◌, codes, map, slice_index_or}
 use Rattle.digits_core.specs.Digits.{digits_of}
 
--- the widths in modules of the values 0 to 102 and of the start characters A, B and C, which are 103 to 105: six digits each, the bar first
+-- the widths in modules of values 0 to 102 and of start characters A, B and C (103 to 105): six digits each, bar first
 unfoldable pub patterns : List (List ℕ)
 patterns = map digits_of
     (codes "212222" ∷ codes "222122" ∷ codes "222221" ∷ codes "121223" ∷ codes "121322" ∷ codes "131222" ∷ codes "122213" ∷ codes "122312" ∷ codes "132212"
@@ -18,7 +18,7 @@ patterns = map digits_of
     ∷ codes "214121" ∷ codes "412121" ∷ codes "111143" ∷ codes "111341" ∷ codes "131141" ∷ codes "114113" ∷ codes "114311" ∷ codes "411113" ∷ codes "411311"
     ∷ codes "113141" ∷ codes "114131" ∷ codes "311141" ∷ codes "411131" ∷ codes "211412" ∷ codes "211214" ∷ codes "211232" ∷ [])
 
--- the values that are no data: SHIFT, the code sets C, B and A, FNC1, and the start characters A, B and C
+-- the values that encode no data: SHIFT, code sets C, B and A, FNC1, and the start characters A, B and C
 abbrev pub shift_value : ℕ
 shift_value = 98
 
@@ -43,7 +43,7 @@ start_b = 104
 abbrev pub start_c : ℕ
 start_c = 105
 
--- the widths of the character of a value
+-- the widths of the character with this value
 abbrev pub pattern : ℕ → List ℕ
 pattern v = slice_index_or patterns v []
 

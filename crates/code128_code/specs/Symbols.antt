@@ -3,11 +3,11 @@ use Rattle.std.specs.Prelude.{◌≡◌, ℕ, ◌+◌, ◌*◌, ◌%◌, ◌≤�
 use Rattle.std.specs.List.{flat_map, AllByRecursion}
 use Rattle.code128_code.specs.Characters.{pattern, stop}
 
--- the symbol characters before the stop: start, data and check character
+-- the characters before the stop character: start, data and check characters
 abbrev pub characters_of : ℕ → List ℕ → ℕ → List ℕ
 characters_of start values check = start ∷ (values ++ check ∷ [])
 
--- the widths of a symbol: those of its characters, joined
+-- the widths of a symbol: those of all its characters
 abbrev pub symbol_widths : ℕ → List ℕ → ℕ → List ℕ
 symbol_widths start values check = flat_map pattern (characters_of start values check) ++ stop
 
@@ -15,7 +15,7 @@ symbol_widths start values check = flat_map pattern (characters_of start values 
 abbrev pub AreValues : List ℕ → Type 0
 AreValues values = AllByRecursion (λ v. v ≤ 102) values
 
--- the modules are the symbol of this start character, these data values and this check character, be it right or wrong
+-- the modules are the symbol with this start character, these data values and this check character, right or wrong
 pub record IsCode128Symbol (start : ℕ) (values : List ℕ) (check : ℕ) (modules : List ℕ) : Type 0 where
   pub start_least : 103 ≤ start
   pub start_greatest : start ≤ 105
@@ -25,7 +25,7 @@ pub record IsCode128Symbol (start : ℕ) (values : List ℕ) (check : ℕ) (modu
   pub check_valid : check ≤ 102
   pub widths : modules ≡ symbol_widths start values check
 
--- each value times its place, the first of them at this place
+-- the sum of each value times its place; the first has place n
 abbrev pub by_place : ℕ → List ℕ → ℕ
 by_place place [] = 0
 by_place place (v ∷ values) = place * v + by_place (place + 1) values

@@ -1,5 +1,5 @@
--- What the values of a Code 128 symbol say in the code sets A, B and C (ISO/IEC 15417, code set tables; GS1 General Specifications, section 5.4).
--- What is encoded is what is read.
+-- The text that the values of a Code 128 symbol encode in code sets A, B and C (ISO/IEC 15417, code set tables; GS1
+-- General Specifications, section 5.4). Reading gives back what was encoded.
 use Rattle.std.specs.Prelude.{◌≡◌, ℕ, ◌+◌, ◌-◌, ◌/◌, ◌%◌, ◌<◌, ◌≤◌, ◌==◌, List, [], ◌∷◌, ◌++◌, Result, Ok, Err, nat_lt, if◌then◌else◌}
 use Rattle.code128_code.specs.declared.code_set.CodeSet.{CodeSet}
 use Rattle.code128_code.specs.declared.code_set.CodeSet.TheVariants.{A, B, C}
@@ -20,7 +20,7 @@ byte_a v = if nat_lt v 64 then v + 32 else v - 64
 abbrev pub byte_b : ℕ → ℕ
 byte_b v = v + 32
 
--- the byte of a value 0 to 95 after a SHIFT: from the other one of A and B
+-- the byte of a value 0 to 95 after SHIFT, which uses the other of code sets A and B
 abbrev pub shifted_byte : CodeSet → ℕ → ℕ
 shifted_byte A v = byte_b v
 shifted_byte B v = byte_a v
@@ -30,12 +30,12 @@ shifted_byte C v = byte_a v
 abbrev pub two_digits : ℕ → List ℕ
 two_digits v = (48 + v / 10) ∷ (48 + v % 10) ∷ []
 
--- what a value from 96 on means in code sets A and B, where one value changes to the other of the two
+-- the meaning of a value of 96 or more in code sets A and B; one value changes to the other set
 abbrev pub special : ℕ → ℕ → CodeSet → Meaning
 special v change other =
     if v == shift_value then Shift else if v == code_c then Latch C else if v == change then Latch other else if v == fnc1 then Byte 29 else Function
 
--- what a value means in a code set; FNC1, value 102, is a separator
+-- the meaning of a value in a code set; FNC1 (102) is a separator
 abbrev pub meaning : CodeSet → ℕ → Meaning
 meaning A v = if nat_lt v 96 then Byte (byte_a v) else special v code_b B
 meaning B v = if nat_lt v 96 then Byte (byte_b v) else special v code_a A
@@ -43,12 +43,12 @@ meaning C v = if nat_lt v 100 then Digits v else if v == code_b then Latch B els
 
 -- ---- lists of values
 
--- bytes before a text, if there is one
+-- the text with these bytes in front, if there is a text
 abbrev pub before : List ℕ → Result (List ℕ) Code128Fault → Result (List ℕ) Code128Fault
 before bytes (Ok text) = Ok (bytes ++ text)
 before bytes (Err fault) = Err fault
 
--- what a value says in a code set: its meaning before what is said after it, in the code set from there on; or else what is said after a SHIFT
+-- the text from a value on: its meaning, then that of the rest in the code set that follows; or the text after SHIFT
 abbrev pub says : Meaning → CodeSet → (CodeSet → Result (List ℕ) Code128Fault) → Result (List ℕ) Code128Fault → Result (List ℕ) Code128Fault
 says (Byte b) set after shifted = before (b ∷ []) (after set)
 says (Digits v) set after shifted = before (two_digits v) (after set)
@@ -56,7 +56,7 @@ says (Latch other) set after shifted = after other
 says Shift set after shifted = shifted
 says Function set after shifted = Err faults.FunctionCharacter
 
--- the text of values from a code set on, or the fault of the first that has no meaning there; a SHIFT takes the value after it, 0 to 95
+-- the text of values from this code set on, or the error of the first without a meaning; SHIFT needs 0 to 95 after it
 abbrev pub text_from : CodeSet → List ℕ → Result (List ℕ) Code128Fault
 text_from set [] = Ok []
 text_from set (v ∷ []) = says (meaning set v) set (λ next. Ok []) (Err faults.CodeSet)
@@ -66,30 +66,30 @@ text_from set (v ∷ w ∷ values) =
 
 -- ---- symbols
 
--- the code set of a start character: A, B and C are 103, 104 and 105
+-- the code set of a start character: A is 103, B is 104, C is 105
 abbrev pub set_of : ℕ → CodeSet
 set_of start = if start == start_a then A else if start == start_b then B else C
 
--- the text of the data values of a symbol, the first of which is FNC1 in a GS1-128 symbol
+-- the text of a symbol's data values; in a GS1-128 symbol the first is FNC1
 abbrev pub gs1_text : CodeSet → List ℕ → Result (List ℕ) Code128Fault
 gs1_text set [] = Err faults.NotGs1
 gs1_text set (v ∷ values) = if v == fnc1 then text_from set values else Err faults.NotGs1
 
--- the text of a symbol with this start character, these data values and this check character, or its first fault
+-- the text of a symbol with this start character, these data values and this check character, or its first error
 abbrev pub symbol_text : ℕ → List ℕ → ℕ → Result (List ℕ) Code128Fault
 symbol_text start values check =
     if check == mod103 start values then gs1_text (set_of start) values else Err faults.CheckCharacter
 
--- the modules are a GS1-128 symbol with its right check character, and its values after the first say this text
+-- the modules are a GS1-128 symbol with a correct check character, and its values after FNC1 have this text
 pub record IsGs1Symbol (modules text : List ℕ) : Type 0 where
   pub start : ℕ
   pub values : List ℕ
   pub symbol : IsCode128Symbol start (fnc1 ∷ values) (mod103 start (fnc1 ∷ values)) modules
   pub says : text_from (set_of start) values ≡ Ok text
 
--- ---- the same by whole values, from the left
+-- ---- the same value by value, from the left
 
--- from the first code set on these values say this text, each value or SHIFT with the value after it in turn, and leave the second code set
+-- from the first code set on, these values have this text and end in the second; SHIFT is one with the value after it
 pub data Says : CodeSet → List ℕ → List ℕ → CodeSet → Type 0 where
   nothing : (set : CodeSet) → Says set [] [] set
   byte : (set to : CodeSet) (v b : ℕ) (values text : List ℕ) → meaning set v ≡ Byte b → Says set values text to → Says set (v ∷ values) (b ∷ text) to
@@ -99,7 +99,7 @@ pub data Says : CodeSet → List ℕ → List ℕ → CodeSet → Type 0 where
   shift : (set to : CodeSet) (v w : ℕ) (values text : List ℕ) → meaning set v ≡ Shift → w < 96 → Says set values text to
       → Says set (v ∷ w ∷ values) (shifted_byte set w ∷ text) to
 
--- the first of these values has this fault in the code set: it is FNC2, FNC3 or FNC4, or a SHIFT without a value 0 to 95 after it
+-- the first of these values is an error in this code set: FNC2, FNC3 or FNC4, or SHIFT without a value 0 to 95 after it
 abbrev pub HasFault : CodeSet → List ℕ → Code128Fault → Type 0
 HasFault set (v ∷ values) faults.FunctionCharacter = meaning set v ≡ Function
 HasFault set (v ∷ []) faults.CodeSet = meaning set v ≡ Shift

@@ -1,4 +1,4 @@
--- The arguments that commands share: the rules that `clap` gets, and what its matches have under their names.
+-- The arguments that several commands share: their rules for `clap`, and the values that its matches hold.
 use Rattle.std.specs.Prelude.{◌≡◌, ℕ, pos, Bool, List, [], ◌∷◌, Some, true, false, codes}
 use Rattle.std.specs.Int.{IsInRange}
 use Rattle.std.specs.Borrow.{Bor}
@@ -37,7 +37,7 @@ IsReferenceYear year = IsInRange first_year last_year year
 
 -- ---- the rules
 
--- `--name N`, which is required and lies from `least` to `most`; the help has one name for N
+-- `--name N`, required, a number from `least` to `most`; the help shows one value
 abbrev pub number_rule : Text → ℕ → ℕ → Rule
 number_rule name least most = record (new_rule name) {
   long = Some name;
@@ -47,22 +47,22 @@ number_rule name least most = record (new_rule name) {
   parser = Some (vp.Signed (pos least) (pos most));
 }
 
--- `--name`, which has no value and may be left out
+-- `--name`, an optional flag
 abbrev pub flag_rule : Text → Rule
 flag_rule name = record (new_rule name) {
   long = Some name;
   action = Some SetTrue;
 }
 
--- texts to choose from, which a program holds somewhere in memory
+-- a list of choices, wherever the program keeps it in memory
 abbrev pub Choices : Type 0
 Choices = Bor (List (Bor Text))
 
--- a value at a place that does not matter
+-- a value whose place in memory does not matter
 abbrev pub placed : {X : Type 0} → X → Bor X
 placed x = record { ref_ptr = (0, 0); now = x }
 
--- `--name C`, one of these choices, which may be left out: then `usual` is chosen
+-- `--name C`, optional, one of these choices; the default is `usual`
 abbrev pub choice_rule : Text → Choices → Text → Rule
 choice_rule name choices usual = record (new_rule name) {
   long = Some name;
@@ -84,7 +84,7 @@ workers_rule = number_rule (codes "workers") 1 most_workers
 abbrev pub lanes_rule : Rule
 lanes_rule = number_rule (codes "lanes") 1 most_lanes
 
--- what `--ais` chooses: every AI, or those of the profile
+-- the choices of `--ais`: all AIs, or those of the profile
 abbrev pub ais_text : Bool → Text
 ais_text false = codes "profile"
 ais_text true = codes "all"
@@ -92,15 +92,15 @@ ais_text true = codes "all"
 abbrev pub ais_choices : Choices
 ais_choices = placed (placed (ais_text false) ∷ placed (ais_text true) ∷ [])
 
--- `--ais A`, if the profile is usual
+-- `--ais A`; the default is the profile
 abbrev pub ais_rule : Choices → Rule
 ais_rule choices = choice_rule (codes "ais") choices (ais_text false)
 
--- `--year Y [--ais A]`, what element strings are read by
+-- `--year Y [--ais A]`, for every command that reads element strings
 abbrev pub terms_rules : Choices → List Rule
 terms_rules choices = year_rule ∷ ais_rule choices ∷ []
 
--- `--lanes N --workers K --year Y [--ais A]`, of a command over rows of lanes
+-- `--lanes N --workers K --year Y [--ais A]`, for commands that read rows of lanes
 abbrev pub lane_row_rules : Choices → List Rule
 lane_row_rules choices = lanes_rule ∷ workers_rule ∷ terms_rules choices
 
@@ -121,45 +121,45 @@ columns_rule = number_rule (codes "columns") 1 most_columns
 abbrev pub rows_rule : Rule
 rows_rule = number_rule (codes "rows") 1 most_grid_rows
 
--- those of a cell and those of a sheet, of a command over a grid of cells
+-- the arguments of a cell and of a sheet, for commands that use a grid
 abbrev pub grid_rules : List Rule
 grid_rules = module_rule ∷ width_rule ∷ height_rule ∷ columns_rule ∷ rows_rule ∷ []
 
--- the command with these arguments more, in this order
+-- the command with these arguments added, in this order
 abbrev pub with_rules : App → List Rule → App
 with_rules a [] = a
 with_rules a (r ∷ rs) = with_rules (with_rule a r) rs
 
--- ---- what the matches have
+-- ---- the values in the matches
 
--- among the matches of a command, this number stands under the name
+-- the matches of a command have this number under this name
 abbrev pub HasNumber : Text → List Row → ℕ → Type 0
 HasNumber name rows n = (t : Text) × (one_of name rows ≡ Some t)
     × IsNumeral 10 (without_leading_plus t) × (n ≡ digits_value 10 (without_leading_plus t))
 
--- and this reference year
+-- the matches have this reference year
 abbrev pub HasYear : List Row → ℕ → Type 0
 HasYear rows year = HasNumber (codes "year") rows year × IsReferenceYear year
 
--- and this choice of AIs
+-- the matches have this choice of AIs
 abbrev pub HasAis : List Row → Bool → Type 0
 HasAis rows every = first_of (codes "ais") rows ≡ Some (ais_text every)
 
--- what element strings are read by
+-- the matches have this reference year and this choice of AIs
 abbrev pub HasTerms : List Row → Terms → Type 0
 HasTerms rows terms = HasYear rows terms.year × HasAis rows terms.every
 
--- this many workers
+-- the matches have this number of workers
 abbrev pub HasWorkers : List Row → ℕ → Type 0
 HasWorkers rows workers = HasNumber (codes "workers") rows workers × IsWorkerCount workers
 
--- the numbers of a grid, each in its range
+-- the matches have these numbers of a grid, each in its range
 abbrev pub HasGrid : List Row → GridOptions → Type 0
 HasGrid rows o = HasNumber (codes "module") rows o.module_dots × HasNumber (codes "width") rows o.width
     × HasNumber (codes "height") rows o.height × HasNumber (codes "columns") rows o.columns × HasNumber (codes "rows") rows o.rows
     × AreGridNumbers o.module_dots o.width o.height o.columns o.rows
 
--- the flag of this name stands among them, or not
+-- a flag in the matches: `true` if it was given, otherwise `false`
 abbrev pub flag_text : Bool → Text
 flag_text true = codes "true"
 flag_text false = codes "false"
@@ -167,7 +167,7 @@ flag_text false = codes "false"
 abbrev pub HasFlag : Text → List Row → Bool → Type 0
 HasFlag name rows is_set = one_of name rows ≡ Some (flag_text is_set)
 
--- a flag asks for separate elements; otherwise it is the human-readable text
+-- the form of answers: separate elements if the flag is given, otherwise human-readable text
 abbrev pub asks_elements : Form → Bool
 asks_elements form.HumanReadable = false
 asks_elements form.Pairs = true

@@ -1,4 +1,4 @@
--- What the words ask for.
+-- What the arguments ask for.
 use Rattle.std.specs.Prelude.{◌≡◌, ◌⊎◌, ⊤, List, [], Option, Some, None}
 use Rattle.clap.specs.Words.{IsAmong, Row, Text, fault_of, subcommand_of}
 use Rattle.clap.specs.declared.error.kind.ErrorKind.{ErrorKind}
@@ -8,12 +8,12 @@ use Rattle.command_line.specs.declared.commands.Asked.{Asked}
 use Rattle.command_line.specs.declared.words.WordsFault.{WordsFault}
 use Rattle.command_line.specs.declared.words.WordsFault.TheVariants as fault
 
--- the command and its numbers, by the name and the matches of a subcommand
+-- the command and its numbers, from the name and the matches of a subcommand
 abbrev pub Asks : Option (Text × List Row) → Asked → Type 0
 Asks None a = ⊥
 Asks (Some p) a = AsksIn p.0 p.1 a
 
--- `clap` finds no fault in the words, and they ask for this
+-- `clap` accepts the arguments, and they ask for this command
 abbrev pub WordsAsk : List Text → Asked → Type 0
 WordsAsk words a = (fault_of hub_app words ≡ []) × Asks (subcommand_of hub_app words) a
 
@@ -21,15 +21,15 @@ WordsAsk words a = (fault_of hub_app words ≡ []) × Asks (subcommand_of hub_ap
 abbrev pub IsRequest : ErrorKind → Type 0
 IsRequest k = (k ≡ kind.DisplayHelp) ⊎ (k ≡ kind.DisplayVersion)
 
--- `clap` finds a fault in the words, other than that they ask for help
+-- `clap` reports an error in the arguments other than a request for help
 abbrev pub AreFaulty : List Text → Type 0
 AreFaulty words = (k : ErrorKind) × IsAmong k (fault_of hub_app words) × (IsRequest k → ⊥)
 
--- they ask for help
+-- the arguments ask for help
 abbrev pub AskForHelp : List Text → Type 0
 AskForHelp words = (k : ErrorKind) × IsAmong k (fault_of hub_app words) × IsRequest k
 
--- what each fault says of the words
+-- what each `WordsFault` says about the arguments
 abbrev pub Explains : List Text → WordsFault → Type 0
 Explains words fault.Words = AreFaulty words
 Explains words (fault.Help text) = AskForHelp words

@@ -1,4 +1,4 @@
--- The numbers of a grid, as options keep them.
+-- The numbers of a grid in the options of a command.
 use Rattle.std.specs.Prelude.{◌≡◌, ℕ}
 use Rattle.command_line.specs.declared.grid_options.GridOptions.{GridOptions}
 

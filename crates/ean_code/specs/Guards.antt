@@ -1,7 +1,7 @@
 -- The guard patterns of EAN and UPC (ISO/IEC 15420, symbol structure).
 use Rattle.std.specs.Prelude.{ℕ, List, [], ◌∷◌}
 
--- the normal one, that of the centre, and the special one at the right of a UPC-E
+-- the normal guard, the centre guard, and the special guard at the right of a UPC-E
 abbrev pub normal_guard : List ℕ
 normal_guard = 1 ∷ 1 ∷ 1 ∷ []
 

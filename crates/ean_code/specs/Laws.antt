@@ -1,4 +1,4 @@
--- What holds of the symbols whatever reads them.
+-- Laws about the symbols, whoever reads them.
 use Rattle.std.specs.Prelude.{◌≡◌, ◌≢◌, ◌<◌, ℕ, List, length, reverse, slice_index, slice_set, sum}
 use Rattle.digits_core.specs.Digits.{AreDigits, IsChecked}
 use Rattle.ean_code.specs.declared.reading.Spelled.{Spelled}
@@ -9,15 +9,15 @@ use Rattle.ean_code.specs.declared.kind.Kind.TheVariants.{Itf14}
 use Rattle.ean_code.specs.TwoOfFive.{AreTwoWidths}
 use Rattle.ean_code.specs.Widths.{AreWidths}
 
--- a symbol shows one list of digits
+-- the modules of a symbol determine its digits
 abbrev pub OneListOfDigits : Type 0
 OneListOfDigits = (kind : Kind) (modules ds es : List ℕ) → IsNumberSymbol kind modules ds → IsNumberSymbol kind modules es → ds ≡ es
 
--- modules have one answer of a reader
+-- a list of modules has only one reading
 abbrev pub OneSpelled : Type 0
 OneSpelled = (kind : Kind) (modules : List ℕ) (a b : Spelled) → IsSpelled kind modules a → IsSpelled kind modules b → a ≡ b
 
--- a symbol of this kind has as many widths, each of 1 to 4 modules, and as many modules together, as its kind
+-- a symbol has as many widths and modules as its kind says, each width of 1 to 4 modules
 pub record HasMeasuresOfKind (kind : Kind) (modules : List ℕ) : Type 0 where
   pub valid : AreWidths modules
   pub count : length modules ≡ width_count kind
@@ -26,18 +26,18 @@ pub record HasMeasuresOfKind (kind : Kind) (modules : List ℕ) : Type 0 where
 abbrev pub MeasuresOfKind : Type 0
 MeasuresOfKind = (kind : Kind) (modules ds : List ℕ) → IsNumberSymbol kind modules ds → HasMeasuresOfKind kind modules
 
--- the digits of a symbol stand for fourteen
+-- the digits of a symbol stand for a number of fourteen digits
 abbrev pub EachGtinHasFourteen : Type 0
 EachGtinHasFourteen = (kind : Kind) (ds : List ℕ) → length ds ≡ digit_count kind → length (gtin_of kind ds) ≡ 14
 
--- no symbol of this kind is one of this kind backwards
+-- a symbol of this kind read backwards is no symbol of this kind
 abbrev pub KindIsOneWay : Kind → Type 0
 KindIsOneWay kind = (modules ds es : List ℕ) → IsNumberSymbol kind modules ds → IsNumberSymbol kind (reverse modules) es → ⊥
 
 abbrev pub EachKindIsOneWay : Type 0
 EachKindIsOneWay = (kind : Kind) → KindIsOneWay kind
 
--- digits that stand for a checked GTIN stand for none with one at a checked place replaced by another
+-- if digits stand for a checked GTIN, replacing one at a checked place leaves digits that stand for none
 abbrev pub ReplacedDigitIsUnchecked : Kind → Type 0
 ReplacedDigitIsUnchecked kind =
     (digits gtin other : List ℕ) (k d : ℕ)

@@ -1,4 +1,4 @@
--- The characters of EAN and UPC symbols, and the number sets that they are drawn in (ISO/IEC 15420, symbol character encodation).
+-- The characters of EAN and UPC symbols and their number sets (ISO/IEC 15420, symbol character encodation).
 use Rattle.std.specs.Prelude.{ℕ, Bool, List, [], ◌∷◌, map, slice_index_or, if◌then◌else◌, ◌==◌, codes}
 use Rattle.std.specs.List.{flat_map, zip}
 use Rattle.digits_core.specs.Digits.{digits_of}
@@ -6,22 +6,22 @@ use Rattle.ean_code.specs.declared.number_sets.Character.{Character}
 use Rattle.ean_code.specs.declared.number_sets.NumberSet.{NumberSet}
 use Rattle.ean_code.specs.declared.number_sets.NumberSet.TheVariants.{A, B}
 
--- the widths of the digits 0 to 9 in number set A, four each, the space first; set C has them too, the bar first
+-- the widths of digits 0 to 9 in number set A, four each, space first; set C has the same widths, bar first
 abbrev pub set_a : List (List ℕ)
 set_a = map digits_of
     (codes "3211" ∷ codes "2221" ∷ codes "2122" ∷ codes "1411" ∷ codes "1132" ∷ codes "1231" ∷ codes "1114" ∷ codes "1312" ∷ codes "1213" ∷ codes "3112" ∷ [])
 
--- the widths of the digits 0 to 9 in number set B, four each, the space first
+-- the widths of digits 0 to 9 in number set B, four each, space first
 abbrev pub set_b : List (List ℕ)
 set_b = map digits_of
     (codes "1123" ∷ codes "1222" ∷ codes "2212" ∷ codes "1141" ∷ codes "2311" ∷ codes "1321" ∷ codes "4111" ∷ codes "2131" ∷ codes "3121" ∷ codes "2113" ∷ [])
 
--- the widths of the digits 0 to 9 in a number set left of the centre
+-- the widths of digits 0 to 9 in a number set left of the centre
 abbrev pub widths_in_set : NumberSet → List (List ℕ)
 widths_in_set A = set_a
 widths_in_set B = set_b
 
--- the widths of a character left of the centre: those of its digit in its number set
+-- the widths of a character left of the centre
 abbrev pub left_widths : Character → List ℕ
 left_widths c = slice_index_or (widths_in_set c.set) c.digit []
 
@@ -33,33 +33,33 @@ right_widths d = slice_index_or set_a d []
 abbrev pub in_set : NumberSet → ℕ → Character
 in_set s d = record { set = s; digit = d }
 
--- number set B, or else A
+-- the number set: B if true, A if false
 abbrev pub set_b_or_a : Bool → NumberSet
 set_b_or_a of_b = if of_b then B else A
 
--- the character that is of number set B or else of A, and has this digit
+-- the character with this digit in number set B, or in A
 abbrev pub character_of : Bool × ℕ → Character
 character_of (of_b, d) = in_set (set_b_or_a of_b) d
 
--- digits as characters, each in the number set at its place
+-- digits as characters, each in its number set
 abbrev pub characters_in : List NumberSet → List ℕ → List Character
 characters_in row ds = map (λ (c : NumberSet × ℕ). record { set = c.0; digit = c.1 }) (zip row ds)
 
--- the number sets that letters name: A, or else B
+-- number sets from letters: B is set B, any other letter set A
 abbrev pub sets_in : List ℕ → List NumberSet
 sets_in letters = map (λ letter. if letter == 66 then B else A) letters
 
--- the number sets of the left six of an EAN-13, by its first digit, which they alone show
+-- the number sets of the left six digits of an EAN-13; they alone encode its first digit
 abbrev pub ean13_rows : List (List NumberSet)
 ean13_rows = map sets_in
     (codes "AAAAAA" ∷ codes "AABABB" ∷ codes "AABBAB" ∷ codes "AABBBA" ∷ codes "ABAABB"
     ∷ codes "ABBAAB" ∷ codes "ABBBAA" ∷ codes "ABABAB" ∷ codes "ABABBA" ∷ codes "ABBABA" ∷ [])
 
--- the number sets of the left four of an EAN-8
+-- the number sets of the left four digits of an EAN-8
 abbrev pub ean8_row : List NumberSet
 ean8_row = A ∷ A ∷ A ∷ A ∷ []
 
--- the number sets of the six of a UPC-E, by its check digit, which they alone show
+-- the number sets of the six digits of a UPC-E; they alone encode its check digit
 abbrev pub upce_rows : List (List NumberSet)
 upce_rows = map sets_in
     (codes "BBBAAA" ∷ codes "BBABAA" ∷ codes "BBAABA" ∷ codes "BBAAAB" ∷ codes "BABBAA"

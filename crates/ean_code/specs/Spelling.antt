@@ -1,4 +1,4 @@
--- The GTIN of a symbol, and what a reader answers.
+-- The GTIN of a symbol, and what reading it gives.
 use Rattle.std.specs.Prelude.{◌≡◌, ℕ, List, [], ◌∷◌, ◌++◌}
 use Rattle.digits_core.specs.Digits.{IsChecked}
 use Rattle.digits_core.specs.Upce.{IsFirstUpceOf}
@@ -8,7 +8,7 @@ use Rattle.ean_code.specs.declared.kind.Kind.TheVariants.{UpcE}
 use Rattle.ean_code.specs.declared.reading.Spelled.{Spelled}
 use Rattle.ean_code.specs.declared.reading.Spelled.TheVariants.{NoPattern, BadCheck, Found}
 
--- what the digits of a symbol of this kind stand for, a GTIN if it is checked; those of a UPC-E for the GTIN-12 that they are expanded to
+-- what a symbol's digits stand for, a GTIN if the check digit is right; UPC-E digits are expanded to a GTIN-12
 abbrev pub gtin_of : Kind → List ℕ → List ℕ
 gtin_of kind digits = (structure_of kind).gtin digits
 
@@ -16,7 +16,7 @@ gtin_of kind digits = (structure_of kind).gtin digits
 abbrev pub IsGtinOf : Kind → List ℕ → List ℕ → Type 0
 IsGtinOf kind digits gtin = gtin ≡ gtin_of kind digits
 
--- no digits have this symbol; or some have and no GTIN stands for them; or they stand for this GTIN
+-- the result of reading: no symbol, a symbol whose digits are no GTIN, or the GTIN
 abbrev pub IsSpelled : Kind → List ℕ → Spelled → Type 0
 IsSpelled kind modules NoPattern = (digits : List ℕ) → IsNumberSymbol kind modules digits → ⊥
 IsSpelled kind modules BadCheck =

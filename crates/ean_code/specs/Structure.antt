@@ -1,8 +1,8 @@
 -- The structure of the symbols that show a GTIN (ISO/IEC 15420 and 16390, symbol structure).
 use Rattle.std.specs.Prelude.{ℕ, List}
 
--- how many digits a symbol shows, how many widths it has, of its bars and spaces, and how many modules wide it is; the widths that it begins with,
--- those in which it shows digits, and those that it ends with; and what digits stand for, a GTIN if it is checked
+-- how many digits, widths (of bars and spaces) and modules the symbols of a kind have; their widths at the start, of the
+-- digits, and at the end; and what the digits stand for, a GTIN if the check digit is right
 pub record Structure : Type 0 where
   pub digits : ℕ
   pub widths : ℕ
@@ -12,7 +12,7 @@ pub record Structure : Type 0 where
   pub stop : List ℕ
   pub gtin : List ℕ → List ℕ
 
--- the places, from 0, whose digits are characters under the check digit: from this one on, and before the next one
+-- the places, from 0, of the digits that are drawn as characters and checked: from `first` to before `after`
 pub record CheckedPlaces : Type 0 where
   pub first : ℕ
   pub after : ℕ

@@ -1,4 +1,5 @@
--- The symbols of EAN, UPC and ITF-14 as lists of widths in modules, from a bar to a bar (ISO/IEC 15420 and 16390, symbol structure).
+-- The symbols of EAN, UPC and ITF-14 as lists of widths in modules, from a bar to a bar (ISO/IEC 15420 and 16390,
+-- symbol structure).
 use Rattle.std.specs.Prelude.{◌≡◌, ℕ, ◌<◌, ◌≤◌, List, ◌++◌, codes, length}
 use Rattle.digits_core.specs.Digits.{AreDigits}
 use Rattle.ean_code.specs.declared.kind.Kind.{Kind}
@@ -16,7 +17,7 @@ structure_of Ean8 = ean8
 structure_of UpcE = upce
 structure_of Itf14 = itf14
 
--- what a reader sends before the text of a symbol (GS1 General Specifications, section 5.1.3)
+-- the symbology identifier that a scanner sends before the text (GS1 General Specifications, section 5.1.3)
 abbrev pub kind_identifier : Kind → List ℕ
 kind_identifier Ean13 = codes "]E0"
 kind_identifier Ean8 = codes "]E4"
@@ -30,7 +31,7 @@ sample_of Ean8 = ean8_sample
 sample_of UpcE = upce_sample
 sample_of Itf14 = itf14_sample
 
--- how many digits a symbol shows, how many widths it has, of its bars and spaces, and how many modules wide it is
+-- the number of digits, of widths (bars and spaces) and of modules of a symbol
 abbrev pub digit_count : Kind → ℕ
 digit_count kind = (structure_of kind).digits
 
@@ -50,7 +51,7 @@ pub record IsNumberSymbol (kind : Kind) (modules digits : List ℕ) : Type 0 whe
   pub valid : AreDigits digits
   pub widths : modules ≡ widths_of kind digits
 
--- the places, from 0, whose digits are characters under the check digit
+-- the places, from 0, whose digits are drawn as characters and covered by the check digit
 abbrev pub checked_of : Kind → CheckedPlaces
 checked_of Ean13 = ean13_checked
 checked_of Ean8 = ean8_checked

@@ -1,10 +1,10 @@
--- Interleaved 2 of 5, in which ITF-14 is drawn (ISO/IEC 16390, symbol character encodation; GS1 General Specifications, section 5.3). A narrow
--- element is one module here and a wide one three; of five elements of a digit two are wide.
+-- Interleaved 2 of 5, the encoding of ITF-14 (ISO/IEC 16390, symbol character encodation; GS1 General Specifications,
+-- section 5.3). A narrow element is one module wide, a wide one three. Two of the five elements of a digit are wide.
 use Rattle.std.specs.Prelude.{◌≡◌, ℕ, ◌⊎◌, List, [], ◌∷◌, map, slice_index_or, codes}
 use Rattle.std.specs.List.{flat_map, zip, AllByRecursion}
 use Rattle.digits_core.specs.Digits.{digits_of}
 
--- the five widths of the digits 0 to 9, in bars as in spaces
+-- the five widths of digits 0 to 9, the same for bars and spaces
 abbrev pub two_of_five : List (List ℕ)
 two_of_five = map digits_of
     (codes "11331" ∷ codes "31113" ∷ codes "13113" ∷ codes "33111" ∷ codes "11313"
@@ -14,15 +14,15 @@ two_of_five = map digits_of
 abbrev pub five_widths : ℕ → List ℕ
 five_widths d = slice_index_or two_of_five d []
 
--- bars and spaces in turn, a bar first
+-- alternating bars and spaces, a bar first
 abbrev pub in_turn : List ℕ → List ℕ → List ℕ
 in_turn bars spaces = flat_map (λ (p : ℕ × ℕ). p.0 ∷ p.1 ∷ []) (zip bars spaces)
 
--- two digits, the first in the bars and the second in the spaces between and after them
+-- two digits: the first in the bars, the second in the spaces
 abbrev pub pair_widths : ℕ × ℕ → List ℕ
 pair_widths (first, second) = in_turn (five_widths first) (five_widths second)
 
--- digits two by two
+-- digits in pairs
 abbrev pub in_pairs : List ℕ → List (ℕ × ℕ)
 in_pairs (first ∷ second ∷ ds) = (first, second) ∷ in_pairs ds
 in_pairs (d ∷ []) = []

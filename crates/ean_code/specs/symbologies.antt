@@ -1,4 +1,4 @@
--- The symbologies whose symbols show a GTIN, one a file.
+-- The symbologies that encode a GTIN, each in a file.
 pub mod Ean13
 pub mod Ean8
 pub mod Itf14

@@ -1,9 +1,9 @@
--- Any number of tills and workers on one lane. A row or an answer that was ever written may arrive at any time, in any
--- order, any number of times, or never. So the lists of events include a node that loses it, a stream that is trimmed, a
--- row that another worker claims, a worker that sleeps and wakes, and a replica that is behind.
+-- Any number of tills and workers on one lane. Every row and answer that was once written may arrive at any time, in
+-- any order, any number of times, or never. So the lists of events also describe a node that loses data, a stream that
+-- is trimmed, a row that a second worker claims, a worker that sleeps and wakes, and a replica that lags behind.
 use Rattle.std.specs.Prelude.{ℕ, ◌+◌, ◌==◌, ◌&&◌, Bool, cond, List, [], ◌∷◌, ◌++◌, length, Option, None, Some, slice_get}
 
--- a row of a series, or the answer to it with the row's mark
+-- a row under its series and number; and an answer, with the series, the number and the mark of its row
 pub record NamedRow : Type 0 where
   pub series : ℕ
   pub number : ℕ
@@ -15,19 +15,19 @@ pub record NamedAnswer : Type 0 where
   pub mark : ℕ
   pub text : ℕ
 
--- a till: its series, the first row whose answer it wants, and its rows
+-- a till: its series, the number of the first row whose answer it needs, and its rows
 pub record OneTill : Type 0 where
   pub series : ℕ
   pub start : ℕ
   pub row : ℕ → ℕ
 
--- the tills that a lane ever has, the answer to a row, and the mark of a row
+-- a lane: all its tills, the answer to each row, and the mark of each row
 pub record LaneTills : Type 0 where
   pub till : ℕ → OneTill
   pub answer : ℕ → ℕ
   pub mark : ℕ → ℕ
 
--- what was ever written; the answers that each till has read and keeps, by their numbers; and what it has given
+-- everything ever written, the answers that each till has read and keeps by number, and the answers that it has given
 pub record RedisLane : Type 0 where
   pub rows : List NamedRow
   pub answers : List NamedAnswer
@@ -35,13 +35,13 @@ pub record RedisLane : Type 0 where
   pub got : ℕ → List ℕ
 
 pub data Step : Type 0 where
-  -- a till submits its row n, for the first time or again
+  -- a till submits its row n, perhaps not for the first time
   Submits : (t : ℕ) → (n : ℕ) → Step
-  -- a worker answers a row that was ever submitted
+  -- a worker answers any row that was submitted
   Works : (which : ℕ) → Step
-  -- a till reads an answer that was ever written, and keeps it if it names one of its own rows
+  -- a till reads any answer that was written, and keeps it if it belongs to one of its rows
   Reads : (t : ℕ) → (which : ℕ) → Step
-  -- a till gives its program the answer to its next row, if it keeps it
+  -- a till gives its program the answer to its next row, if it has kept that answer
   Gives : (t : ℕ) → Step
 
 abbrev pub fresh_lane : RedisLane
@@ -59,7 +59,7 @@ answer_to s r = record { series = r.series; number = r.number; mark = s.mark r.t
 abbrev pub next_wanted : LaneTills → RedisLane → ℕ → ℕ
 next_wanted s l t = (s.till t).start + length (l.got t)
 
--- whether an answer is to one of the till's rows
+-- whether an answer belongs to one of the till's rows
 abbrev pub is_own : LaneTills → ℕ → NamedAnswer → Bool
 is_own s t a = (a.series == (s.till t).series) && (a.mark == s.mark (own_row s t a.number))
 

@@ -1,4 +1,4 @@
--- Rows through the bars of printed labels, and what these answer.
+-- Rows through the bars of printed labels, and their answers.
 use Rattle.std.specs.Prelude.{◌≡◌, ℕ, ◌+◌, ◌*◌, ◌<◌, List, Some, slice_get, true}
 use Rattle.element_core.specs.Elements.{Entry}
 use Rattle.scan_core.specs.Row.{IsRow, dots_of}
@@ -11,7 +11,7 @@ use Rattle.sheet_core.specs.Labels.{carrier_of}
 use Rattle.element_core.specs.Terms.{Terms}
 use Rattle.sheet_core.specs.declared.label.Label.{Label}
 
--- a row through the bars of this label's cell, on one of the sheets of labels
+-- a row through the bars of this label's cell, on a sheet of these labels
 pub record IsBarRow (labels : List Label) (g : Cells) (sheets : List Bitmap) (label : Label) (row : List ℕ) : Type 0 where
   pub sheet : ℕ
   pub cell : ℕ
@@ -24,6 +24,6 @@ pub record IsBarRow (labels : List Label) (g : Cells) (sheets : List Bitmap) (la
   pub row_is : IsRow row
   pub dots : dots_of row ≡ cell_dots g bitmap cell y
 
--- the answer of a label: its carrier, and the elements that its text says by a reference year
+-- the answer of a label: its carrier, and the elements of its text in a reference year
 abbrev pub label_answer : Label → Terms → List Entry → Answer
 label_answer label year list = Read (carrier_of label) (record { year = year; list = list })

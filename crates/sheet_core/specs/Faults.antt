@@ -1,4 +1,4 @@
--- The text of a fault, as it stands in an output line: `refused`, its number, its name and, if it has one, the label's index.
+-- The text of an error in an output line: `refused`, its number, its name and, if it has one, the index of the label.
 use Rattle.std.specs.Prelude.{ℕ, List, Some}
 use Rattle.digits_core.specs.Refusals.{refusal_text, refusal_words}
 use Rattle.digits_core.specs.declared.refusal.RefusalKind.TheVariants as refusal
@@ -9,18 +9,18 @@ use Rattle.sheet_core.specs.declared.fault.PrintFault.TheVariants.{Sheet, WriteF
 use Rattle.sheet_core.specs.declared.fault.PbmFault.{PbmFault}
 use Rattle.sheet_core.specs.declared.fault.PbmFault.TheVariants.{NotP4, PbmHeader, Truncated, PbmSize, ReadFault, NoMemory as PbmNoMemory}
 
--- of labels that are not printed
+-- the error of labels that are not printed
 abbrev pub sheet_fault_text : SheetFault → List ℕ
 sheet_fault_text (LabelKind i) = refusal_text refusal.LabelKind (Some i)
 sheet_fault_text (LabelWidth i) = refusal_text refusal.LabelWidth (Some i)
 sheet_fault_text NoMemory = refusal_words refusal.NoMemory
 
--- of labels that are not printed as images
+-- the error of labels that are not printed as images
 abbrev pub print_fault_text : PrintFault → List ℕ
 print_fault_text (Sheet fault) = sheet_fault_text fault
 print_fault_text WriteFault = refusal_words refusal.WriteFault
 
--- of bytes that are no images, or were not read
+-- the error of bytes that are not images, or could not be read
 abbrev pub pbm_fault_text : PbmFault → List ℕ
 pbm_fault_text NotP4 = refusal_words refusal.NotP4
 pbm_fault_text PbmHeader = refusal_words refusal.PbmHeader

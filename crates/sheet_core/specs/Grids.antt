@@ -1,7 +1,7 @@
 -- Grids of cells of one size, in dots.
 use Rattle.std.specs.Prelude.{ℕ, ◌*◌, ◌<◌, ◌≤◌}
 
--- cells of one size, in rows and columns; and the width of a module in dots
+-- cells of one size in rows and columns, and the width of a module in dots
 pub record Cells : Type 0 where
   pub dots : ℕ
   pub width : ℕ
@@ -9,7 +9,7 @@ pub record Cells : Type 0 where
   pub columns : ℕ
   pub rows : ℕ
 
--- what a grid may be: its numbers, bars below and above which a module stays light, and a sheet of at most 16,384 by 16,384 dots
+-- the limits of a grid: its numbers, a light module above and below the bars, and at most 16,384 by 16,384 dots
 pub record IsGrid (g : Cells) : Type 0 where
   pub dots_least : 1 ≤ g.dots
   pub dots_most : g.dots ≤ 8

@@ -8,7 +8,7 @@ use Rattle.sheet_core.specs.declared.kind.GtinKind.TheVariants.{Ean13, UpcA, Ean
 use Rattle.sheet_core.specs.declared.kind.LabelKind.{LabelKind}
 use Rattle.sheet_core.specs.declared.kind.LabelKind.TheVariants.{Gtin, Gs1128}
 
--- what is said and drawn of a kind: its name, the carrier that its symbol is read as, and the nominal quiet zones left and right of the symbol, in
+-- a kind of label: its name, the carrier that its symbol reads as, and the nominal quiet zones left and right, in
 -- modules
 pub record Symbology : Type 0 where
   pub name : List ℕ

@@ -25,12 +25,12 @@ use Rattle.sheet_core.specs.Kinds.{symbology_of}
 abbrev pub gtin_text : List ℕ → List ℕ
 gtin_text gtin = codes "01" ++ ascii_of gtin
 
--- what a label says: the element of a GTIN, or a list of elements
+-- the content of a label: a GTIN, or a list of elements
 pub data Content : Type 0 where
   OfGtin : List ℕ → Content
   OfElements : Listing → Content
 
--- a label taken apart: its kind and its content
+-- the parts of a label: its kind and its content
 abbrev pub parts_of : Label → LabelKind × Content
 parts_of (Ean13 gtin) = (Gtin kind.Ean13, OfGtin gtin)
 parts_of (UpcA gtin) = (Gtin kind.UpcA, OfGtin gtin)
@@ -53,7 +53,7 @@ gtin_label kind.Ean8 gtin = Ean8 gtin
 gtin_label kind.UpcE gtin = UpcE gtin
 gtin_label kind.Itf14 gtin = Itf14 gtin
 
--- the content that is lent
+-- a borrowed content
 abbrev pub lent : Lent → Content
 lent (LentGtin gtin) = OfGtin gtin.now
 lent (LentElements elements) = OfElements elements.now
@@ -68,22 +68,22 @@ abbrev pub content_list : Content → List Entry
 content_list (OfGtin gtin) = gtin_entry gtin ∷ []
 content_list (OfElements listing) = listing.list
 
--- what a label says, as an element string
+-- the content of a label as an element string
 abbrev pub label_text : Label → List ℕ
 label_text label = content_text (content_of label)
 
--- the carrier that its symbol is read as
+-- the carrier that its symbol reads as
 abbrev pub carrier_of : Label → Carrier
 carrier_of label = (symbology_of (label_kind label)).carrier
 
--- the modules are the GS1-128 symbol that is printed for a text of at most 48 characters: start character C, the values of the text by the
--- encoding rule, and the check character
+-- the modules are the GS1-128 symbol printed for a text of at most 48 characters: start character C, the values of the
+-- text by the encoding rule, and the check character
 pub record IsPrintedGs1128 (text modules : List ℕ) : Type 0 where
   pub few : length text ≤ 48
   pub drawn : IsCode128Symbol start_c (data_values text) (mod103 start_c (data_values text)) modules
   pub says : IsGs1Symbol modules text
 
--- the modules are the label's symbol; that of a UPC-A is an EAN-13 whose first digit is 0
+-- the modules are the label's symbol; a UPC-A symbol is an EAN-13 symbol with first digit 0
 abbrev pub IsLabelSymbol : Label → List ℕ → Type 0
 IsLabelSymbol (Ean13 gtin) modules = IsSpelled KindEan13 modules (Found gtin)
 IsLabelSymbol (UpcA gtin) modules = (gtin ≡ padded (drop 2 gtin)) × IsSpelled KindEan13 modules (Found gtin)
@@ -92,22 +92,22 @@ IsLabelSymbol (UpcE gtin) modules = IsPrintedUpce gtin modules
 IsLabelSymbol (Itf14 gtin) modules = IsSpelled KindItf14 modules (Found gtin)
 IsLabelSymbol (Gs1128 listing) modules = IsPrintedGs1128 (canonical listing.list) modules
 
--- a symbol's modules, and the quiet zones that it is printed with
+-- the modules of a symbol and its quiet zones, as printed
 pub record Drawn : Type 0 where
   pub modules : List ℕ
   pub quiet_left : ℕ
   pub quiet_right : ℕ
 
--- this is what is drawn of the label
+-- this is drawn for the label
 pub record IsDrawn (label : Label) (s : Drawn) : Type 0 where
   pub symbol : IsLabelSymbol label s.modules
   pub left : s.quiet_left ≡ (symbology_of (label_kind label)).quiet_left
   pub right : s.quiet_right ≡ (symbology_of (label_kind label)).quiet_right
 
--- a symbol and its quiet zones in dots are at most as wide as a cell
+-- a symbol with its quiet zones is at most as wide as a cell, in dots
 abbrev pub FitsCell : Cells → Drawn → Type 0
 FitsCell g s = (s.quiet_left + sum s.modules + s.quiet_right) * g.dots ≤ g.width
 
--- the label has a symbol, and it fits its cell
+-- the label has a symbol that fits its cell
 abbrev pub IsPrintable : Cells → Label → Type 0
 IsPrintable g label = (s : Drawn) × IsDrawn label s × FitsCell g s

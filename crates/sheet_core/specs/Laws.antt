@@ -23,7 +23,7 @@ use Rattle.sheet_core.specs.pbm.Images.{images_of, pbm_of}
 use Rattle.element_core.specs.Terms.{Terms}
 use Rattle.sheet_core.specs.pbm.Refusals.{RefusesFile, RefusesHeader}
 
--- what is drawn of a label is one symbol with its quiet zones
+-- a label determines the symbol that is drawn for it, with its quiet zones
 abbrev pub OneDrawn : Type 0
 OneDrawn = (label : Label) (s t : Drawn) → IsDrawn label s → IsDrawn label t → s ≡ t
 
@@ -35,8 +35,8 @@ BarRowsShow =
     → IsBarRow labels g sheets label row
     → (modules : List ℕ) × IsLabelSymbol label modules × Shows row (carrier_of label) Forwards modules
 
--- under a reference year under which the label's text says these elements, each row through the bars of its cell answers the label's carrier and
--- these elements, and nothing else
+-- if the label's text has these elements in a reference year, each row through the bars of its cell reads as the
+-- label's carrier with these elements, and as nothing else
 abbrev pub BarRowsAnswer : Type 0
 BarRowsAnswer =
     (labels : List Label) (g : Cells) (sheets : List Bitmap) (label : Label) (row : List ℕ) (year : Terms) (list : List Entry) (said : Answer)
@@ -45,7 +45,7 @@ BarRowsAnswer =
     → IsElements year (label_text label) list
     → IsAnswer row year said ↔ (said ≡ label_answer label year list)
 
--- and so does each row with the dots of what is drawn of a label, on whatever sheet
+-- the same for every row with the dots drawn for a label, on any sheet
 abbrev pub DrawnIsRead : Type 0
 DrawnIsRead =
     (g : Cells) (label : Label) (s : Drawn) (row : List ℕ) (year : Terms) (list : List Entry) (said : Answer)
@@ -57,7 +57,7 @@ DrawnIsRead =
     → IsElements year (label_text label) list
     → IsAnswer row year said ↔ (said ≡ label_answer label year list)
 
--- each row of a cell of a printed sheet that has no label is refused as blank
+-- each row of a printed cell without a label is refused as blank
 abbrev pub EmptyCellsAreBlank : Type 0
 EmptyCellsAreBlank =
     (labels : List Label) (g : Cells) (sheets : List Bitmap) (i cell y : ℕ) (sheet : Bitmap) (runs : List ℕ) (year : Terms)
@@ -69,31 +69,31 @@ EmptyCellsAreBlank =
     → dots_of runs ≡ cell_dots g sheet cell y
     → IsAnswer runs year (Refused Blank)
 
--- sheets that are written, at most 4,096, are read as the same sheets
+-- up to 4,096 sheets that are written read back as the same sheets
 abbrev pub WrittenIsRead : Type 0
 WrittenIsRead = (sheets : List Bitmap) → AllByRecursion IsBitmap sheets → length sheets ≤ 4096 → images_of (pbm_of sheets) ≡ (Ok sheets, [])
 
--- printed sheets, at most 4,096, that are written are read as the same sheets
+-- up to 4,096 printed sheets that are written read back as the same sheets
 abbrev pub PrintedIsRead : Type 0
 PrintedIsRead =
     (labels : List Label) (g : Cells) (sheets : List Bitmap)
     → ArePrinted labels g sheets → length sheets ≤ 4096 → images_of (pbm_of sheets) ≡ (Ok sheets, [])
 
--- what is read as a header, before whatever follows it, is exactly the headers of at most 4,096 bytes
+-- the reader accepts a header, whatever follows it, exactly if it has the grammar of one and at most 4,096 bytes
 abbrev pub HeadersAreRead : Type 0
 HeadersAreRead =
     (bytes : List ℕ) (size : Size)
     → ((rest : List ℕ) → header_of (bytes ++ rest) ≡ (Ok size, rest)) ↔ (IsHeader bytes size × (length bytes ≤ 4096))
 
--- what is read as a file is exactly the files of at most 4,096 images
+-- the reader accepts a file exactly if it has the grammar of one and at most 4,096 images
 abbrev pub FilesAreRead : Type 0
 FilesAreRead = (bytes : List ℕ) (sheets : List Bitmap) → (images_of bytes ≡ (Ok sheets, [])) ↔ (IsPbm bytes sheets × (length sheets ≤ 4096))
 
--- what is refused as a header, up to the byte that decides, is exactly what the grammar refuses for this
+-- the reader refuses a header at a byte for a reason exactly if the grammar does
 abbrev pub HeadersAreRefused : Type 0
 HeadersAreRefused = (fault : PbmFault) (bytes : List ℕ) → (header_of bytes ≡ (Err fault, [])) ↔ RefusesHeader fault bytes
 
--- the same of a file
+-- the same for a file
 abbrev pub FilesAreRefused : Type 0
 FilesAreRefused = (fault : PbmFault) (bytes : List ℕ) → (images_of bytes ≡ (Err fault, [])) ↔ RefusesFile fault bytes
 

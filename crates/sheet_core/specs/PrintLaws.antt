@@ -1,4 +1,4 @@
--- Laws by which labels are printed in one way.
+-- Laws: labels can be printed in only one way.
 use Rattle.std.specs.Prelude.{◌≡◌, ◌<◌, ℕ, List}
 use Rattle.std.specs.List.{AllByRecursion}
 use Rattle.sheet_core.specs.declared.label.Label.{Label}
@@ -7,11 +7,11 @@ use Rattle.sheet_core.specs.Drawing.{ArePrinted}
 use Rattle.sheet_core.specs.Grids.{Cells}
 use Rattle.sheet_core.specs.pbm.Images.{pbm_of}
 
--- each of the numbers is a byte
+-- each number is a byte
 abbrev pub AreBytes : List ℕ → Type 0
 AreBytes numbers = AllByRecursion (λ n. n < 256) numbers
 
--- a bitmap of bytes is fixed by its width, its height and its dots
+-- width, height and dots determine the bytes of a bitmap
 abbrev pub OneBitmap : Type 0
 OneBitmap =
     (s t : Bitmap) → IsBitmap s → IsBitmap t → AreBytes s.bytes → AreBytes t.bytes
@@ -20,7 +20,7 @@ OneBitmap =
     → ((x y : ℕ) → x < s.width → y < s.height → dot_of s x y ≡ dot_of t x y)
     → s ≡ t
 
--- labels are printed in a grid as one list of sheets, if what is written of these are bytes
+-- labels and a grid determine the printed sheets, as bytes
 abbrev pub OnePrinted : Type 0
 OnePrinted =
     (labels : List Label) (g : Cells) (sheets others : List Bitmap)

@@ -1,4 +1,4 @@
--- The words of the command `check`.
+-- The arguments of `check`.
 use Rattle.std.specs.Prelude.{codes}
 use Rattle.clap.specs.Words.{App, new_app}
 use Rattle.command_line.specs.Arguments.{Choices, terms_rules, with_rules}

@@ -1,11 +1,11 @@
--- What types, private contracts and proofs name beside `NumberSets`.
+-- Words for types, private contracts and proofs, beside `NumberSets`.
 use Rattle.std.specs.Prelude.{ℕ, ◌+◌, ◌*◌, ◌<◌, Bool, true, false, List, map}
 use Rattle.std.specs.List.{fold, AllByRecursion}
 use Rattle.ean_code.specs.declared.number_sets.Character.{Character}
 use Rattle.ean_code.specs.declared.number_sets.NumberSet.{NumberSet}
 use Rattle.ean_code.specs.declared.number_sets.NumberSet.TheVariants.{A, B}
 
--- each has a digit 0 to 9
+-- each character has a digit 0 to 9
 abbrev pub AreCharacters : List Character → Type 0
 AreCharacters cs = AllByRecursion (λ (c : Character). c.digit < 10) cs
 
@@ -27,6 +27,6 @@ abbrev pub bit_of : NumberSet → ℕ
 bit_of A = 0
 bit_of B = 1
 
--- number sets as one number, a bit each, the first highest
+-- number sets as one number: a bit for each, the first highest
 abbrev pub packed_sets : List NumberSet → ℕ
 packed_sets sets = fold (λ n s. 2 * n + bit_of s) 0 sets

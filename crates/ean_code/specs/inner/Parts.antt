@@ -1,4 +1,4 @@
--- The parts that a symbol is read by.
+-- The parts of a symbol, as it is read.
 use Rattle.std.specs.Prelude.{◌≡◌, ℕ, List, ◌++◌, length}
 use Rattle.std.specs.List.{flat_map}
 use Rattle.digits_core.specs.Digits.{AreAsciiDigits, AreDigits, digits_of}
@@ -10,17 +10,17 @@ use Rattle.ean_code.specs.Symbols.{IsNumberSymbol}
 use Rattle.ean_code.specs.Guards.{normal_guard, special_guard, centre_guard}
 use Rattle.ean_code.specs.TwoOfFive.{itf_start, itf_stop}
 
--- the widths of a symbol that has these left and right of its centre guard pattern
+-- the widths of a symbol with these left and right of its centre guard
 abbrev pub two_halves : List ℕ → List ℕ → List ℕ
 two_halves left right = normal_guard ++ ((left ++ (centre_guard ++ right)) ++ normal_guard)
 
--- this many widths left of a centre guard pattern, and as many right of it, are these
+-- the n widths left of the centre guard and the n right of it are these
 pub record AreFramed (half : ℕ) (widths left right : List ℕ) : Type 0 where
   pub left_count : length left ≡ half
   pub right_count : length right ≡ half
   pub shown : widths ≡ two_halves left right
 
--- the 24 widths between a normal and a special guard pattern are these
+-- the 24 widths between the normal and the special guard are these
 pub record AreFramedSix (widths six : List ℕ) : Type 0 where
   pub count : length six ≡ 24
   pub shown : widths ≡ normal_guard ++ (six ++ special_guard)
@@ -30,7 +30,7 @@ pub record AreFramedPairs (widths pairs : List ℕ) : Type 0 where
   pub count : length pairs ≡ 70
   pub shown : widths ≡ itf_start ++ (pairs ++ itf_stop)
 
--- this many characters left of a centre guard pattern, and as many digits right of it, have these widths
+-- n characters left of the centre guard and n digits right of it have these widths
 pub record AreHalves (count : ℕ) (widths : List ℕ) (left : List Character) (right : List ℕ) : Type 0 where
   pub left_count : length left ≡ count
   pub right_count : length right ≡ count
@@ -38,12 +38,12 @@ pub record AreHalves (count : ℕ) (widths : List ℕ) (left : List Character) (
   pub right_valid : AreDigits right
   pub shown : widths ≡ two_halves (flat_map left_widths left) (right_part right)
 
--- the six characters before a special guard pattern have these widths
+-- the six characters before the special guard have these widths
 pub record AreSix (widths : List ℕ) (left : List Character) : Type 0 where
   pub count : length left ≡ 6
   pub valid : AreCharacters left
   pub shown : widths ≡ normal_guard ++ (flat_map left_widths left ++ special_guard)
 
--- the text is the ASCII digits of the symbol of this kind that has these widths
+-- the text is the ASCII digits of the symbol of this kind with these widths
 abbrev pub IsTextOf : Kind → List ℕ → List ℕ → Type 0
 IsTextOf kind widths text = AreAsciiDigits text × IsNumberSymbol kind widths (digits_of text)

@@ -1,4 +1,5 @@
--- EAN-13, and UPC-A as one (ISO/IEC 15420, symbol structure). The number sets alone show the first digit, so it is no checked place.
+-- EAN-13, which includes UPC-A (ISO/IEC 15420, symbol structure). Only number sets encode the first digit, so its place
+-- is not checked.
 use Rattle.std.specs.Prelude.{ℕ, List, [], ◌∷◌, ◌++◌, take, drop, slice_index}
 use Rattle.std.specs.List.{concat}
 use Rattle.digits_core.specs.Digits.{padded}

@@ -1,5 +1,6 @@
--- UPC-E (ISO/IEC 15420, symbol structure): six digits and the check digit, which stand for the GTIN-12 that they are expanded to. The number sets
--- alone show the check digit, and the sixth picks the line of the table, so these are no checked places.
+-- UPC-E (ISO/IEC 15420, symbol structure): six digits and the check digit, expanded to a GTIN-12. Only number sets
+-- encode the check digit, and the sixth digit selects the line of the expansion table, so these two places are not
+-- checked.
 use Rattle.std.specs.Prelude.{ℕ, List, [], ◌∷◌, ◌++◌, take, slice_index}
 use Rattle.std.specs.List.{concat}
 use Rattle.digits_core.specs.Digits.{padded}

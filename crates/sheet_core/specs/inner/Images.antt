@@ -1,10 +1,10 @@
--- What types, private contracts and proofs name beside `Images`.
+-- Words for types, private contracts and proofs, beside `Images`.
 use Rattle.std.specs.Prelude.{◌≡◌, ℕ, ◌<◌, ◌≤◌, Bool, true, List, Option, length, Result, Ok, Err}
 use Rattle.std.specs.Io.KnownBytes.{Consumes, IsAtEnd}
 use Rattle.sheet_core.specs.declared.fault.PbmFault.{PbmFault}
 use Rattle.sheet_core.specs.declared.fault.PbmFault.TheVariants.{NotP4, PbmHeader, Truncated, PbmSize, ReadFault, NoMemory}
 
--- a reader has failed if `ReadFault` says so, and nothing else was a failure
+-- after `ReadFault` the reader has failed; after anything else it is as it was
 abbrev pub FailsFor : {A : Type 0} → Bool → Bool → Result A PbmFault → Type 0
 FailsFor old new (Err ReadFault) = new ≡ true
 FailsFor old new (Ok x) = new ≡ old
@@ -14,7 +14,7 @@ FailsFor old new (Err Truncated) = new ≡ old
 FailsFor old new (Err PbmSize) = new ≡ old
 FailsFor old new (Err NoMemory) = new ≡ old
 
--- this many bytes did not come: the input ended, or reading them stopped for another cause
+-- n bytes did not arrive: the input ended, or reading stopped for another reason
 abbrev pub StopsBefore : ℕ → Option (List ℕ) → Option (List ℕ) → PbmFault → Type 0
 StopsBefore count old new Truncated = (bytes : List ℕ) × Consumes old new bytes × (length bytes < count) × IsAtEnd new
 StopsBefore count old new ReadFault = (bytes : List ℕ) × Consumes old new bytes × (length bytes ≤ count)

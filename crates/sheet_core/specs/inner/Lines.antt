@@ -1,4 +1,4 @@
--- A sheet as the lines of its rows of cells.
+-- A sheet as lines, one for each row of cells.
 use Rattle.std.specs.Prelude.{◌≡◌, ℕ, ◌-◌, ◌*◌, ◌/◌, ◌%◌, ◌++◌, Bool, false, Option, Some, None, List, length, replicate, slice_get, drop, take}
 use Rattle.std.specs.List.{concat}
 use Rattle.scan_core.specs.Bits.{dot_at}
@@ -21,11 +21,11 @@ pub record IsBarLine (g : Cells) (symbols : List Drawn) (line : List ℕ) : Type
   pub long : length line ≡ stride (g.columns * g.width)
   pub dots : (x : ℕ) → dot_at line x ≡ line_dot g symbols x
 
--- the same bytes this many times
+-- the bytes repeated n times
 abbrev pub repeated_bytes : ℕ → List ℕ → List ℕ
 repeated_bytes count line = concat (replicate count line)
 
--- all the bytes of a row of cells whose bars have this line
+-- all bytes of a row of cells, from the line of its bars
 abbrev pub band : Cells → List ℕ → List ℕ
 band g line =
     let light : List ℕ = repeated_bytes g.dots (replicate (length line) 0) in light ++ (repeated_bytes (g.height - 2 * g.dots) line ++ light)

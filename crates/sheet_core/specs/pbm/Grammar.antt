@@ -1,4 +1,4 @@
--- What a header is and what a file of images is, by their pieces (netpbm, pbm(5)).
+-- The grammar of a header and of a file of images (netpbm, pbm(5)).
 use Rattle.std.specs.Prelude.{◌≡◌, ◌⊎◌, ℕ, ◌+◌, ◌-◌, ◌*◌, ◌<◌, ◌≤◌, false, true, IsTrue, List, [], ◌∷◌, ◌++◌, length}
 use Rattle.std.specs.List.{AllByRecursion, AllZip, concat}
 use Rattle.sheet_core.specs.declared.pbm.state.Size.{Size}
@@ -7,7 +7,7 @@ use Rattle.element_core.specs.Elements.{is_digit}
 use Rattle.sheet_core.specs.pbm.Headers.{is_line_end, is_white}
 use Rattle.sheet_core.specs.pbm.Images.{bitmap_of}
 
--- what stands between # and the end of its line, and that end
+-- a comment after its #, up to and including the end of its line
 pub record IsComment (bytes : List ℕ) : Type 0 where
   pub text : List ℕ
   pub end : ℕ
@@ -20,23 +20,23 @@ abbrev pub IsBlank : List ℕ → Type 0
 IsBlank [] = ⊥
 IsBlank (b ∷ bytes) = (IsTrue (is_white b) × (bytes ≡ [])) ⊎ ((b ≡ 35) × IsComment bytes)
 
--- one such blank at least
+-- one or more blanks
 pub record AreBlanks (blanks : List (List ℕ)) : Type 0 where
   pub some : 0 < length blanks
   pub each : AllByRecursion IsBlank blanks
 
--- the number that digits say, after those of n
+-- the number of digits that follow those of n
 abbrev pub number_from : ℕ → List ℕ → ℕ
 number_from n [] = n
 number_from n (b ∷ digits) = number_from (10 * n + (b - 48)) digits
 
--- the digits, one at least, say this number; zeros may come first
+-- one or more digits have this value; leading zeros are allowed
 pub record IsNumeral (digits : List ℕ) (n : ℕ) : Type 0 where
   pub some : 0 < length digits
   pub each : AllByRecursion (λ b. IsTrue (is_digit b)) digits
   pub value : n ≡ number_from 0 digits
 
--- they say a width or a height
+-- the digits have the value of a width or a height
 pub record IsNumber (digits : List ℕ) (n : ℕ) : Type 0 where
   pub numeral : IsNumeral digits n
   pub least : 1 ≤ n
@@ -56,7 +56,7 @@ pub record IsHeader (bytes : List ℕ) (size : Size) : Type 0 where
   pub last_is : IsTrue (is_white last)
   pub joined : bytes ≡ 80 ∷ 52 ∷ (concat before ++ (width ++ (concat between ++ (height ++ last ∷ []))))
 
--- a header of at most 4,096 bytes, and the rows of the image; what their pad bits are means nothing
+-- a header of at most 4,096 bytes and the rows of the image; padding bits are ignored
 pub record IsImage (bytes : List ℕ) (s : Bitmap) : Type 0 where
   pub size : Size
   pub header : List ℕ
@@ -67,7 +67,7 @@ pub record IsImage (bytes : List ℕ) (s : Bitmap) : Type 0 where
   pub joined : bytes ≡ header ++ rows
   pub shown : s ≡ bitmap_of size rows
 
--- images one after the other with nothing between them
+-- images one after another, with nothing between them
 pub record IsPbm (bytes : List ℕ) (sheets : List Bitmap) : Type 0 where
   pub images : List (List ℕ)
   pub joined : bytes ≡ concat images

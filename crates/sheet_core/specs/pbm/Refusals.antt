@@ -1,4 +1,4 @@
--- Why bytes are no images, in words of the grammar (netpbm, pbm(5)): the bytes end with the one that decides.
+-- Why bytes are not images, by the grammar (netpbm, pbm(5)): the bytes end with the deciding one.
 use Rattle.std.specs.Prelude.{◌≡◌, ◌≢◌, ◌⊎◌, ℕ, ◌*◌, ◌<◌, ◌≤◌, ◌==◌, ◌||◌, Bool, false, IsTrue, List, [], ◌∷◌, ◌++◌, Option, Some, None, length}
 use Rattle.std.specs.List.{AllByRecursion, AllZip, concat}
 use Rattle.sheet_core.specs.declared.fault.PbmFault.{PbmFault}
@@ -10,18 +10,18 @@ use Rattle.sheet_core.specs.pbm.Headers.{is_line_end, is_white}
 
 -- ---- beginnings of a header
 
--- what stands before the blanks before a number: `P4`, and before those of the height, once the width is known, blanks and the width too
+-- what comes before the blanks in front of a number: `P4` or, once the width is known, `P4`, blanks and the width
 abbrev pub IsLead : Option ℕ → List ℕ → Type 0
 IsLead None lead = lead ≡ 80 ∷ 52 ∷ []
 IsLead (Some width) lead =
     (blanks : List (List ℕ)) × (digits : List ℕ) × AreBlanks blanks × IsNumber digits width × (lead ≡ 80 ∷ 52 ∷ (concat blanks ++ digits))
 
--- nothing, or a comment whose line has not ended
+-- nothing, or a comment that has not ended
 abbrev pub IsOpenComment : List ℕ → Type 0
 IsOpenComment [] = Unit {0}
 IsOpenComment (b ∷ text) = (b ≡ 35) × AllByRecursion (λ c. is_line_end c ≡ false) text
 
--- a header that has come to the blanks before a number, or into a comment there
+-- the beginning of a header, up to the blanks before a number or into a comment among them
 pub record EndsInBlanks (width : Option ℕ) (bytes : List ℕ) : Type 0 where
   pub lead : List ℕ
   pub blanks : List (List ℕ)
@@ -31,7 +31,7 @@ pub record EndsInBlanks (width : Option ℕ) (bytes : List ℕ) : Type 0 where
   pub comment_is : IsOpenComment comment
   pub joined : bytes ≡ lead ++ (concat blanks ++ comment)
 
--- a header that has come to a number, whose digits so far say n
+-- the beginning of a header, into a number whose digits so far have the value n
 pub record EndsInNumber (width : Option ℕ) (n : ℕ) (bytes : List ℕ) : Type 0 where
   pub lead : List ℕ
   pub blanks : List (List ℕ)
@@ -41,7 +41,7 @@ pub record EndsInNumber (width : Option ℕ) (n : ℕ) (bytes : List ℕ) : Type
   pub digits_are : IsNumeral digits n
   pub joined : bytes ≡ lead ++ (concat blanks ++ digits)
 
--- a beginning of a header: nothing, `P`, or `P4` and on to blanks or to a number
+-- a beginning of a header: nothing, `P`, or `P4` and more up to blanks or a number
 abbrev pub IsBeginning : List ℕ → Type 0
 IsBeginning bytes =
     (bytes ≡ [])
@@ -71,13 +71,13 @@ pub record EndsWrongNumber (bytes : List ℕ) : Type 0 where
   pub ends : IsTrue (ends_number width last)
   pub joined : bytes ≡ front ++ last ∷ []
 
--- what is a beginning of a header without its last byte is none with it, no header either, and no wrong number has ended
+-- neither a beginning of a header nor a header, and no wrong number ends with the last byte
 pub record IsStray (bytes : List ℕ) : Type 0 where
   pub no_beginning : IsBeginning bytes → ⊥
   pub no_header : (size : Size) → IsHeader bytes size → ⊥
   pub no_number : EndsWrongNumber bytes → ⊥
 
--- after `P4` a byte that cannot stand at its place, or the byte after 4,096 of a header
+-- after `P4` a byte that is not allowed there, or byte 4,097 of a header
 pub record IsWrongHeader (bytes : List ℕ) : Type 0 where
   pub front : List ℕ
   pub last : ℕ
@@ -87,7 +87,7 @@ pub record IsWrongHeader (bytes : List ℕ) : Type 0 where
   pub wrong : (length front ≡ 4096) ⊎ IsStray (front ++ last ∷ [])
   pub joined : bytes ≡ front ++ last ∷ []
 
--- the bytes are refused as a header for this; the header that ends too early is a beginning of one
+-- the bytes are refused as a header for this reason; a header that ends too early is a beginning of one
 abbrev pub RefusesHeader : PbmFault → List ℕ → Type 0
 RefusesHeader NotP4 bytes = IsNoMagic bytes
 RefusesHeader PbmHeader bytes = IsWrongHeader bytes
@@ -97,7 +97,7 @@ RefusesHeader _ bytes = ⊥
 
 -- ---- refusals of a file
 
--- a header, and fewer rows than its image has
+-- a header with fewer rows than it announces
 pub record EndsInRows (bytes : List ℕ) : Type 0 where
   pub size : Size
   pub header : List ℕ
@@ -107,12 +107,12 @@ pub record EndsInRows (bytes : List ℕ) : Type 0 where
   pub few : length rows < stride size.width * size.height
   pub joined : bytes ≡ header ++ rows
 
--- the bytes are refused as an image for this
+-- the bytes are refused as an image for this reason
 abbrev pub RefusesImage : PbmFault → List ℕ → Type 0
 RefusesImage Truncated bytes = RefusesHeader Truncated bytes ⊎ EndsInRows bytes
 RefusesImage fault bytes = RefusesHeader fault bytes
 
--- images and then one that is refused and has at least one byte; or a byte after 4,096 images
+-- images, then one of at least one byte that is refused; or a byte after 4,096 images
 pub record RefusesFile (fault : PbmFault) (bytes : List ℕ) : Type 0 where
   pub images : List (List ℕ)
   pub sheets : List Bitmap
