@@ -6,7 +6,6 @@ pub mod Conflicts
 pub mod Formats
 pub mod GtinKinds
 pub mod Numbers
-pub mod Pairs
 pub mod Places
 pub mod Units
 pub mod Written

@@ -9,11 +9,10 @@ ghost use Rattle.answer_core.specs.Answers.{IsError, TellsNothing};
 ghost use Rattle.answer_core.specs.Reads.{IsAnswerBy, IsDataAnswer};
 
 use crate::answer::{Answer, NO_GTIN, NO_PLACE};
-use crate::cut::cut;
-use crate::pairs::{Pairs, put_pair, text_of};
 use crate::symbol::{SymbolKind, as_four, identified_symbol};
 use digits_core::RefusalKind;
 use element_core::{Elements, Form, Pair, Year};
+use message_core::{Pairs, cut_at, put_pair, text_of};
 
 /// The most bytes of a line, for an answer that one of the calls filled.
 const MOST_LINE: usize = 292;
@@ -36,8 +35,8 @@ fn number_of(digits: &[u8]) -> Option<u16> {
 
 /// The number and the place of the error in a line, behind `refused `: a number, a name and, if it has one, a place.
 fn error_of(words: &[u8]) -> Option<(u16, u16)> {
-    let (number, name) = cut(b' ', words)?;
-    let place = match cut(b' ', name) {
+    let (number, name) = cut_at(b' ', words)?;
+    let place = match cut_at(b' ', name) {
         Some((_, place)) => number_of(place)?,
         None => NO_PLACE,
     };
@@ -48,7 +47,7 @@ fn error_of(words: &[u8]) -> Option<(u16, u16)> {
 fn pair_of(field: &[u8]) -> Option<Pair>
     ensures { IfSome result (λ p. fits_entry (entry_of p) ≡ true) }
 {
-    let (ai, value) = cut(b'=', field)?;
+    let (ai, value) = cut_at(b'=', field)?;
     Some(Pair {
         ai: text_of(ai)?,
         value: text_of(value)?,
@@ -59,7 +58,7 @@ fn pair_of(field: &[u8]) -> Option<Pair>
 fn pairs_of(fields: &[u8]) -> Option<Pairs> {
     let mut pairs = Pairs::new();
     let mut rest = fields;
-    while let Some((field, more)) = cut(b'\t', rest) {
+    while let Some((field, more)) = cut_at(b'\t', rest) {
         if !put_pair(&mut pairs, pair_of(field)) {
             return None;
         }
@@ -96,7 +95,7 @@ impl Answer {
     fn read_parts(&mut self, line: &[u8], terms: Year)
         ensures { IsAnswerBy terms self.new }
     {
-        let Some((word, said)) = cut(b' ', line) else {
+        let Some((word, said)) = cut_at(b' ', line) else {
             return self.refuse_line();
         };
         if word == b"refused".as_slice() {

@@ -1,10 +1,11 @@
 //! Blanks and hyphens that people put into texts for readability. Texts are UTF-8.
-ghost use Rattle.std.specs.Prelude.{◌≡◌, ◌++◌, ◌<◌, ◌≤◌, [], List, drop, false, length, slice_index_or, suc, true, ℕ, IfNone, IfSome};
+ghost use Rattle.std.specs.Prelude.{◌≡◌, ◌++◌, ◌<◌, ◌≤◌, [], List, false, length, slice_index_or, suc, true, ℕ, IfNone, IfSome};
 ghost use Rattle.std.specs.List.{cons_option, list_all};
 ghost use Rattle.element_core.specs.Elements.{is_digit};
 ghost use Rattle.answer_core.specs.Gaps.{before_gaps, behind_gaps, gap_length, gap_of, is_byte_gap, is_three_byte_gap, is_two_byte_gap, without_gaps, kept_in, last_gap_length, trimmed};
 
 use element_core::Text;
+use message_core::without_first;
 
 /// Where blanks and hyphens are ignored.
 #[derive(Clone, Copy, Debug, PartialEq, Eq)]
@@ -96,13 +97,6 @@ fn last_gap_length(place: GapPlace, text: &[u8]) -> usize
     let second = byte_at(text, count.saturating_sub(2));
     let third = byte_at(text, count.saturating_sub(1));
     gap_of(place, third, (second, third), (first, second, third))
-}
-
-/// The text after this many bytes.
-fn without_first(many: usize, text: &[u8]) -> &[u8]
-    ensures { result.now ≡ drop many text.now }
-{
-    text.split_at(text.len().min(many)).1
 }
 
 /// The text behind the gaps at the front.

@@ -4,8 +4,8 @@ ghost use Rattle.std.specs.Str.Lines.{lines, strip_carriage_return};
 ghost use Rattle.answer_core.specs.Lines.{AreLinesAnswered, IsLineAnswer};
 
 use crate::answer::Answer;
-use crate::cut::cut;
 use element_core::Year;
+use message_core::cut_at;
 
 /// What each line of a text is.
 #[derive(Clone, Copy, Debug, PartialEq, Eq)]
@@ -44,7 +44,7 @@ fn first_line(text: &[u8]) -> Option<(&[u8], &[u8])>
     ensures shorter { IfSome result (λ r. length r.1.now < length text.now) }
     ensures behind { IfSome result (λ r. r.1.now ≡ drop (length text.now - length r.1.now) text.now) }
 {
-    match cut(b'\n', text) {
+    match cut_at(b'\n', text) {
         Some((line, rest)) => Some((without_return(line), rest)),
         None if text.is_empty() => None,
         None => Some((text, &text[text.len()..])),

@@ -1,14 +1,14 @@
 //! Reads element strings as they are printed: each AI in parentheses or brackets, before its value.
-ghost use Rattle.std.specs.Prelude.{◌≡◌, ◌==◌, ◌+◌, ◌<◌, ◌≤◌, ◌∷◌, [], drop, length, not, option_map, false, true, IfNone, IfSome};
+ghost use Rattle.std.specs.Prelude.{◌≡◌, ◌+◌, ◌<◌, ◌≤◌, ◌∷◌, [], drop, length, option_map, false, true, IfNone, IfSome};
 ghost use Rattle.std.specs.List.{list_all};
 ghost use Rattle.element_core.specs.Pairs.{entries_of, entry_of};
+ghost use Rattle.message_core.specs.Collecting.{Puts};
 ghost use Rattle.message_core.specs.Links.{fits, fits_entry};
 ghost use Rattle.answer_core.specs.Printed.{before_mark, begins_marked, closed, is_known_ai, has_plain_value, is_plain_value, is_taken_ai, mark_at, printed, printed_entry, printed_value, start_of};
-ghost use Rattle.answer_core.specs.inner.Pairs.{Gathers};
 
 use crate::gap::{GapPlace, are_digits, trimmed, without_gaps};
-use crate::pairs::{Pairs, put_pair, text_of};
 use element_core::{Pair, Text, Year, first_element};
+use message_core::{Pairs, has_no, put_pair, text_of};
 
 /// How AIs are marked in a printed text.
 #[derive(Clone, Copy, Debug, PartialEq, Eq)]
@@ -124,7 +124,7 @@ fn printed_pair(ai: &[u8], value: &[u8]) -> Option<Pair>
 
 /// Puts an AI and the text up to the next one at the end, if they fit.
 fn put_printed(pairs: &mut Pairs, ai: &[u8], value: &[u8]) -> bool
-    ensures { Gathers result pairs.old.list pairs.new.list (printed_entry ai.now value.now ∷ []) }
+    ensures { Puts result pairs.old.list pairs.new.list (printed_entry ai.now value.now ∷ []) }
 {
     put_pair(pairs, printed_pair(ai, value))
 }
@@ -157,13 +157,6 @@ pub(crate) fn are_plain(marks: Marks, pairs: &[Pair]) -> bool
         }
     }
     true
-}
-
-/// Whether a text has no such byte.
-fn has_no(sign: u8, text: &[u8]) -> bool
-    ensures { result ≡ list_all (λ b. not (b == sign)) text.now }
-{
-    text.iter().all(|byte| *byte != sign)
 }
 
 /// Whether a value is not empty and has none of the characters around AIs.

@@ -1,6 +1,5 @@
 //! Answers texts as people type, print and paste them.
 ghost use Rattle.std.specs.Prelude.{◌≡◌, ◌==◌, ◌≤◌, IfNone, IfSome, None, Some, false, length, true};
-ghost use Rattle.std.specs.Char.{is_ascii_digit};
 ghost use Rattle.std.specs.List.{list_all};
 ghost use Rattle.element_core.specs.Pairs.{entries_of, list_fault};
 ghost use Rattle.message_core.specs.Links.{fits};
@@ -15,12 +14,11 @@ ghost use Rattle.answer_core.specs.inner.Answers.{IsNamedAs};
 
 use crate::answer::Answer;
 use crate::gap::{GapPlace, byte_at, trimmed, without_gaps};
-use crate::pairs::Pairs;
 use crate::printed::{Marks, are_plain, begins_marked, put_all_printed, start_of};
 use crate::symbol::SymbolKind;
 use digits_core::{Refusal, RefusalKind};
 use element_core::{ElementFault, Elements, Pair, Year};
-use message_core::{is_message, read_spelled};
+use message_core::{Pairs, are_digits, is_message, read_spelled};
 
 /// How a text is read.
 #[derive(Clone, Copy, Debug, PartialEq, Eq)]
@@ -85,13 +83,6 @@ pub(crate) fn are_zeros(digits: &[u8]) -> bool
     ensures { result ≡ list_all (λ b. b == 48) digits.now }
 {
     digits.iter().all(|byte| *byte == b'0')
-}
-
-/// Whether all bytes are digits.
-fn are_digits(text: &[u8]) -> bool
-    ensures { result ≡ list_all is_ascii_digit text.now }
-{
-    text.iter().all(|byte| byte.is_ascii_digit())
 }
 
 /// Whether digits are no certain GTIN: only zeros, or eight digits that begin with 0.

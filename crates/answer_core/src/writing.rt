@@ -1,10 +1,8 @@
 //! Writes the elements of an answer as texts: what a scanner sends, and Digital Links.
-ghost use Rattle.std.specs.Prelude.{◌≡◌, ◌==◌, ◌≤◌, ◌+◌, ◌++◌, IfErr, IfOk, OnOk, None, Some, length, map, not, take};
-ghost use Rattle.std.specs.List.{list_all};
+ghost use Rattle.std.specs.Prelude.{◌≡◌, ◌≤◌, ◌+◌, ◌++◌, IfErr, IfOk, OnOk, None, Some, length, map, take};
 ghost use Rattle.digits_core.specs.Buffers.{IsPut};
 ghost use Rattle.element_core.specs.Pairs.{entries_of, list_fault};
 ghost use Rattle.message_core.specs.Faults.{message_fault_text};
-ghost use Rattle.message_core.specs.Links.{without_slash};
 ghost use Rattle.message_core.specs.Symbologies.{symbology_named};
 ghost use Rattle.answer_core.specs.Places.{entry_at};
 ghost use Rattle.answer_core.specs.Written.{carries_elements, is_stem, link_of, link_text, parted_text, scan_text, sent, stem_link, writing_text, written_text};
@@ -18,7 +16,7 @@ use crate::order::{LinkOrder, link_order};
 use crate::place::{MOST_ELEMENTS, Place};
 use arrayvec::ArrayVec;
 use element_core::{ElementFault, Elements, Pair, Text, Year};
-use message_core::{MessageFault, Symbology, is_uri};
+use message_core::{MessageFault, Symbology, has_no, is_uri, without_slash};
 use std::array;
 
 /// A text of these bytes.
@@ -68,25 +66,6 @@ fn carries_elements(symbology: Symbology) -> bool
         | Symbology::DotCode => true,
         _ => false,
     }
-}
-
-/// A stem without a slash at its end.
-fn without_slash(stem: &[u8]) -> &[u8]
-    ensures { result.now ≡ without_slash stem.now }
-{
-    let count = stem.len();
-    if count > 0 && stem[count - 1] == b'/' {
-        &stem[..count - 1]
-    } else {
-        stem
-    }
-}
-
-/// Whether there is no such byte.
-fn has_no(byte: u8, text: &[u8]) -> bool
-    ensures { result ≡ list_all (λ b. not (b == byte)) text.now }
-{
-    text.iter().all(|b| *b != byte)
 }
 
 /// Whether a path may follow this URI: it has neither `?` nor `#`.

@@ -1,4 +1,5 @@
 pub mod Coding
+pub mod Collecting
 pub mod Faults
 pub mod Heads
 pub mod Keys
@@ -8,4 +9,3 @@ pub mod Messages
 pub mod Spellings
 pub mod Symbologies
 pub mod Upce
-pub mod inner

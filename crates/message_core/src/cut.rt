@@ -1,9 +1,9 @@
 //! Splits texts at a place or at a byte.
-ghost use Rattle.std.specs.Prelude.{◌≡◌, ◌==◌, ◌<◌, ◌≤◌, ◌∷◌, ℕ, List, [], drop, length, IfNone, IfSome};
+ghost use Rattle.std.specs.Prelude.{◌≡◌, ◌==◌, ◌<◌, ◌≤◌, ◌+◌, ◌∷◌, ℕ, List, [], drop, length, IfNone, IfSome, MatchOption};
 ghost use Rattle.std.specs.List.{after_first, before_first, position_or_len, slice_split};
 
 /// The text after this many bytes.
-pub(crate) fn without_first(many: usize, text: &[u8]) -> &[u8]
+pub fn without_first(many: usize, text: &[u8]) -> &[u8]
     ensures { result.now ≡ drop many text.now }
 {
     text.split_at(text.len().min(many)).1
@@ -41,6 +41,20 @@ pub(crate) fn behind(byte: u8, text: &[u8]) -> &[u8]
     }
 }
 
+/// The text before the first such byte and the text behind it, if there is one.
+pub fn cut_at(byte: u8, text: &[u8]) -> Option<(&[u8], &[u8])>
+    ensures parts { MatchOption result (slice_split (λ b. b == byte) text.now ≡ text.now ∷ [])
+        (λ r. slice_split (λ b. b == byte) text.now ≡ r.0.now ∷ slice_split (λ b. b == byte) r.1.now) }
+    ensures shorter { IfSome result (λ r. length r.0.now + length r.1.now + 1 ≡ length text.now) }
+    ensures behind { IfSome result (λ r. r.1.now ≡ drop (length r.0.now + 1) text.now) }
+{
+    let place = place_of(byte, text);
+    if place == text.len() {
+        return None;
+    }
+    Some((&text[..place], &text[place + 1..]))
+}
+
 /// The first part of a text that is split at such bytes, and the text of the other parts, if there are any.
 pub(crate) fn first_part(byte: u8, text: &[u8]) -> (&[u8], Option<&[u8]>)
     ensures some { IfSome result.1 (λ left. slice_split (λ b. b == byte) text.now ≡ result.0.now ∷ slice_split (λ b. b == byte) left.now) }
@@ -48,10 +62,8 @@ pub(crate) fn first_part(byte: u8, text: &[u8]) -> (&[u8], Option<&[u8]>)
     ensures none { IfNone result.1 (slice_split (λ b. b == byte) text.now ≡ result.0.now ∷ []) }
     ensures first { (others : List (List ℕ)) × (slice_split (λ b. b == byte) text.now ≡ result.0.now ∷ others) }
 {
-    let place = place_of(byte, text);
-    if place < text.len() {
-        (&text[..place], Some(&text[place + 1..]))
-    } else {
-        (text, None)
+    match cut_at(byte, text) {
+        Some((first, left)) => (first, Some(left)),
+        None => (text, None),
     }
 }

@@ -43,7 +43,7 @@ pub(crate) fn begins_separated(text: &[u8]) -> bool
 }
 
 /// Whether all bytes are digits.
-pub(crate) fn are_digits(text: &[u8]) -> bool
+pub fn are_digits(text: &[u8]) -> bool
     ensures { result ≡ list_all is_ascii_digit text.now }
 {
     text.iter().all(|byte| byte.is_ascii_digit())

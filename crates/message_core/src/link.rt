@@ -60,7 +60,7 @@ fn behind_scheme(text: &[u8]) -> &[u8]
 }
 
 /// The path without a slash at its end.
-fn without_slash(path: &[u8]) -> &[u8]
+pub fn without_slash(path: &[u8]) -> &[u8]
     ensures { result.now ≡ without_slash path.now }
 {
     let count = path.len();
@@ -72,7 +72,7 @@ fn without_slash(path: &[u8]) -> &[u8]
 }
 
 /// Whether there is no such byte.
-fn has_no(byte: u8, text: &[u8]) -> bool
+pub fn has_no(byte: u8, text: &[u8]) -> bool
     ensures { result ≡ list_all (λ b. not (b == byte)) text.now }
 {
     text.iter().all(|b| *b != byte)

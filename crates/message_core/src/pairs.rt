@@ -1,9 +1,9 @@
 //! The pairs of a Digital Link.
-ghost use Rattle.std.specs.Prelude.{◌≡◌, ◌==◌, ◌∷◌, [], ◌++◌, ◌<◌, ◌≤◌, codes, length, false, true, IfNone, IfSome, IsTrue};
+ghost use Rattle.std.specs.Prelude.{◌≡◌, ◌==◌, ◌∷◌, [], ◌++◌, ◌<◌, ◌≤◌, codes, length, false, true, IfNone, IfSome};
 ghost use Rattle.std.specs.Str.{bytes_eq};
 ghost use Rattle.element_core.specs.Pairs.{entries_of, entry_of};
 ghost use Rattle.message_core.specs.Links.{fits_all, fits_entry, fourteen, is_ai, parameters, path_entries, path_entry, query_entries, query_entry, segments};
-ghost use Rattle.message_core.specs.inner.Collecting.{Puts};
+ghost use Rattle.message_core.specs.Collecting.{Puts};
 
 use crate::coding::decoded;
 use crate::cut::{before, behind, first_part};
@@ -14,13 +14,13 @@ use std::marker::Model;
 
 /// At most 48 pairs: no more fit into 192 bytes, with a separator between each two.
 #[derive(Drop)]
-pub(crate) struct Pairs {
+pub struct Pairs {
     items: [Pair; 48],
     count: usize,
 }
 
 impl Model for Pairs {
-    ghost use Rattle.message_core.specs.inner.Collecting.{Collected};
+    ghost use Rattle.message_core.specs.Collecting.{Collected};
 
     ghost Value = { Collected };
 
@@ -36,7 +36,7 @@ impl Model for Pairs {
 
 impl Pairs {
     /// No pairs.
-    pub(crate) fn new() -> Pairs
+    pub fn new() -> Pairs
         ensures { result.list ≡ [] }
     {
         Pairs {
@@ -46,6 +46,13 @@ impl Pairs {
             }),
             count: 0,
         }
+    }
+
+    /// Takes all pairs out.
+    pub fn clear(&mut self)
+        ensures { self.new.list ≡ [] }
+    {
+        self.count = 0;
     }
 
     /// Whether there is no room for one more.
@@ -68,7 +75,7 @@ impl Pairs {
     }
 
     /// The pairs.
-    pub(crate) fn as_slice(&self) -> &[Pair]
+    pub fn as_slice(&self) -> &[Pair]
         ensures list { entries_of result.now ≡ self.now.list }
         ensures few { length self.now.list ≤ 48 }
         ensures fits { fits_all self.now.list ≡ true }
@@ -78,7 +85,7 @@ impl Pairs {
 }
 
 /// A text of these bytes, if they are at most 192.
-fn text_of(bytes: &[u8]) -> Option<Text>
+pub fn text_of(bytes: &[u8]) -> Option<Text>
     ensures some { IfSome result (λ text. text.items ≡ bytes.now) }
     ensures few { IfSome result (λ text. length text.items ≤ 192) }
     ensures none { IfNone result (192 < length bytes.now) }
@@ -151,11 +158,10 @@ fn is_ai(name: &[u8]) -> bool
 }
 
 /// Puts a pair at the end, if there is one and room for it.
-fn put(pairs: &mut Pairs, pair: Option<Pair>) -> bool
+pub fn put_pair(pairs: &mut Pairs, pair: Option<Pair>) -> bool
     requires { IfSome pair (λ p. fits_entry (entry_of p) ≡ true) }
-    ensures put { IfSome pair (λ p. IsTrue result → pairs.new.list ≡ pairs.old.list ++ entry_of p ∷ []) }
+    ensures put { IfSome pair (λ p. Puts result pairs.old.list pairs.new.list (entry_of p ∷ [])) }
     ensures none { IfNone pair (result ≡ false) }
-    ensures full { IfSome pair (λ p. result ≡ false → length pairs.old.list ≡ 48) }
 {
     let Some(pair) = pair else {
         return false;
@@ -171,7 +177,7 @@ fn put(pairs: &mut Pairs, pair: Option<Pair>) -> bool
 fn put_segments(pairs: &mut Pairs, ai: &[u8], value: &[u8]) -> bool
     ensures { Puts result pairs.old.list pairs.new.list (path_entry ai.now value.now ∷ []) }
 {
-    put(pairs, path_pair(ai, value))
+    put_pair(pairs, path_pair(ai, value))
 }
 
 /// Puts the AI of a parameter and its value at the end, if they fit.
@@ -181,7 +187,7 @@ fn put_parameter(pairs: &mut Pairs, parameter: &[u8]) -> bool
     if !is_ai(before(b'=', parameter)) {
         return true;
     }
-    put(pairs, query_pair(parameter))
+    put_pair(pairs, query_pair(parameter))
 }
 
 /// Puts the elements of a path from its key on at the end, if they fit.

@@ -1,4 +1,4 @@
--- How the elements of a Digital Link are collected.
+-- How elements are collected from a text.
 use Rattle.std.specs.Prelude.{◌≡◌, ◌++◌, Bool, true, false, List}
 use Rattle.element_core.specs.Elements.{Entry}
 use Rattle.message_core.specs.Links.{fits}

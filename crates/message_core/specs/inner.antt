@@ -1,2 +1,0 @@
--- Definitions for the inside of the crate: types, private contracts and proofs name them, and no public contract reaches them.
-pub mod Collecting
