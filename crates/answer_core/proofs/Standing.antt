@@ -71,10 +71,10 @@ pub stands_at : (terms : Terms) (text rest ai value : List ℕ) (p : Place) → 
     → p.end ≡ length text - length rest + length ai + length value
     → Names (entry_day terms (record { ai = ai; value = value })) (entry_time (record { ai = ai; value = value }))
     (entry_until terms (record { ai = ai; value = value })) p
-    → p.number ≡ number_index p.value (number_at ai) → p.decimals ≡ decimals_of (number_at ai)
+    → p.number ≡ number_index p.value (number_at ai) → p.decimals ≡ decimals_of (number_at ai) → p.reserved ≡ 0
     → IsPlaced terms text (record { ai = ai; value = value }) p
 unfolding entry_of
-stands_at terms text rest ai value p from fits shorter ai_is value_is begin mid end names number decimals =
+stands_at terms text rest ai value p from fits shorter ai_is value_is begin mid end names number decimals reserved =
     let at = length text - length rest in
     let n : length ai ≡ p.value - p.ai = omega (arith, begin, mid) in
     let m : length value ≡ p.end - p.value = omega (arith, mid, end) in
@@ -97,6 +97,7 @@ stands_at terms text rest ai value p from fits shorter ai_is value_is begin mid 
       names = names;
       number = number;
       decimals = decimals;
+      reserved = reserved;
     }
 
 -- ---- from places by their index to places one for one

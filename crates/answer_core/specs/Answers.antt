@@ -41,6 +41,14 @@ pub record IsError (a : Answer) : Type 0 where
   pub length_is : a.length ≡ 0
   pub gtin_is : a.gtin ≡ 255
 
+-- neither an element nor an error
+pub record TellsNone (a : Answer) : Type 0 where
+  pub fault_is : a.fault ≡ 0
+  pub place_is : a.place ≡ 65535
+  pub count_is : a.count ≡ 0
+  pub length_is : a.length ≡ 0
+  pub gtin_is : a.gtin ≡ 255
+
 -- this symbol and its identifier
 pub record IsNamed (symbol : SymbolKind) (identifier : List ℕ) (a : Answer) : Type 0 where
   pub symbol_is : a.symbol ≡ symbol_number symbol

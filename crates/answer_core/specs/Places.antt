@@ -36,6 +36,7 @@ pub record IsPlaced (terms : Terms) (text : List ℕ) (e : Entry) (p : Place) : 
   pub names : Names (entry_day terms e) (entry_time e) (entry_until terms e) p
   pub number : p.number ≡ number_index p.value (number_at e.ai)
   pub decimals : p.decimals ≡ decimals_of (number_at e.ai)
+  pub reserved : p.reserved ≡ 0
 
 -- ---- the GTIN of elements
 

@@ -1,5 +1,5 @@
 -- Answers to texts and to rows.
-use Rattle.std.specs.Prelude.{◌≡◌, ◌<◌, ◌⊎◌, IfSome, ℕ, List, [], ◌∷◌, Option, Some, None, Ok, Err}
+use Rattle.std.specs.Prelude.{◌≡◌, ◌<◌, ◌⊎◌, IfSome, ℕ, List, [], ◌∷◌, Option, Some, None, Ok, Err, take}
 use Rattle.std.specs.Str.{IsTrimAsciiEnd}
 use Rattle.digits_core.specs.Digits.{digits_of, padded}
 use Rattle.digits_core.specs.Faults.{digit_fault_text}
@@ -18,7 +18,7 @@ use Rattle.digits_core.specs.declared.refusal.RefusalKind.TheVariants as refusal
 use Rattle.element_core.specs.declared.form.Form.TheVariants as form
 use Rattle.answer_core.specs.Answers.{IsError, IsNamed, TellsElements, TellsNothing, TellsRefusal}
 use Rattle.answer_core.specs.Formats.{format_text}
-use Rattle.answer_core.specs.Symbols.{sent_identifier, sent_symbol}
+use Rattle.answer_core.specs.Symbols.{identified_symbol, sent_identifier, sent_symbol, symbol_number}
 use Rattle.answer_core.specs.declared.answer.Answer.{Answer}
 use Rattle.answer_core.specs.declared.symbol.SymbolKind.TheVariants.{Unknown}
 
@@ -67,6 +67,10 @@ IsGtinAnswer terms digits a = IsGtinBy terms digits (gtin_fault digits) a × IsU
 abbrev pub IsAnswerBy : Terms → Answer → Type 0
 IsAnswerBy terms a = ((es : List Entry) × TellsElements terms es a) ⊎ IsError a
 
+-- the symbol is that of the identifier and the elements
+abbrev pub NamesItself : Answer → Type 0
+NamesItself a = a.symbol ≡ symbol_number (identified_symbol a.identifier (take a.length a.text))
+
 -- the answer whose line this is, with the elements as data; or that the text is no such line
 abbrev pub IsDataAnswer : Terms → List ℕ → Answer → Type 0
-IsDataAnswer terms line a = (IsAnswerBy terms a × (format_text form.Pairs a ≡ line)) ⊎ TellsNothing refusal.Kind a
+IsDataAnswer terms line a = (IsAnswerBy terms a × NamesItself a × (format_text form.Pairs a ≡ line)) ⊎ TellsNothing refusal.Kind a

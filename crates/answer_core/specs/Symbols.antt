@@ -1,8 +1,9 @@
 -- Which symbol was read, and its identifier (GS1 General Specifications, section 5.1.3).
-use Rattle.std.specs.Prelude.{ℕ, Bool, false, ◌==◌, ◌&&◌, List, [], ◌∷◌, Option, Some, drop, length, slice_index_or, if◌then◌else◌}
-use Rattle.message_core.specs.Symbologies.{identifier_of}
+use Rattle.std.specs.Prelude.{ℕ, Bool, false, ◌==◌, ◌&&◌, List, [], ◌∷◌, Option, Some, None, drop, length, slice_index_or, take, if◌then◌else◌}
+use Rattle.message_core.specs.Symbologies.{identifier_of, symbology_named}
 use Rattle.message_core.specs.declared.head.Head.{Head}
 use Rattle.message_core.specs.declared.head.Head.TheVariants as head
+use Rattle.message_core.specs.declared.symbology.Symbology.{Symbology}
 use Rattle.message_core.specs.declared.symbology.Symbology.TheVariants as symbology
 use Rattle.scan_core.specs.declared.carrier.Carrier.{Carrier}
 use Rattle.scan_core.specs.declared.carrier.Carrier.TheVariants as carrier
@@ -61,6 +62,15 @@ sent_symbol _ text = Unknown
 abbrev pub as_four : List ℕ → List ℕ
 as_four (a ∷ b ∷ c ∷ []) = a ∷ b ∷ c ∷ 0 ∷ []
 as_four _ = 0 ∷ 0 ∷ 0 ∷ 0 ∷ []
+
+-- the symbol of an identifier and the element string behind it: behind `]E0` an EAN-13, or a UPC-A if the GTIN has 12 digits
+abbrev pub symbol_by : Option Symbology → List ℕ → SymbolKind
+symbol_by (Some symbology.EanUpc) text = carrier_symbol carrier.Ean13 text
+symbol_by (Some s) text = sent_symbol (Some (head.Symbology s)) text
+symbol_by None text = Unknown
+
+abbrev pub identified_symbol : List ℕ → List ℕ → SymbolKind
+identified_symbol identifier text = symbol_by (symbology_named (take 3 identifier)) text
 
 -- the identifier that a scanner sent, with a 0 behind it; zeros if it sent none
 abbrev pub sent_identifier : Option Head → List ℕ

@@ -1,11 +1,12 @@
 //! What a barcode means, as a struct.
-ghost use Rattle.std.specs.Prelude.{◌≡◌};
-ghost use Rattle.answer_core.specs.Answers.{IsNamed, TellsElements, TellsNothing, TellsRefusal, place_number};
+ghost use Rattle.std.specs.Prelude.{◌≡◌, ◌∷◌, []};
+ghost use Rattle.answer_core.specs.Answers.{IsNamed, TellsElements, TellsNone, TellsNothing, TellsRefusal, place_number};
 ghost use Rattle.answer_core.specs.inner.Answers.{IsNamedAs, IsShort};
 ghost use Rattle.answer_core.specs.Reads.{TellsLine};
 ghost use Rattle.answer_core.specs.Refusals.{refusal_number};
 ghost use Rattle.digits_core.specs.Refusals.{refusal_text};
 ghost use Rattle.digits_core.specs.declared.refusal.RefusalKind.TheVariants as refusal;
+ghost use Rattle.answer_core.specs.declared.symbol.SymbolKind.TheVariants as kind;
 
 use crate::gtin::gtin_index;
 use crate::place::{MOST_ELEMENTS, Place, put_places};
@@ -66,7 +67,10 @@ fn place_number(place: Option<usize>) -> u16
 
 impl Answer {
     /// An empty answer.
-    pub fn new() -> Answer {
+    pub fn new() -> Answer
+        ensures none { TellsNone result }
+        ensures named { IsNamed kind.Unknown (0 ∷ 0 ∷ 0 ∷ 0 ∷ []) result }
+    {
         Answer {
             fault: 0,
             place: NO_PLACE,

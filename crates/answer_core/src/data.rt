@@ -6,7 +6,7 @@ ghost use Rattle.element_core.specs.declared.form.Form.TheVariants as form;
 ghost use Rattle.message_core.specs.Links.{fits_entry};
 ghost use Rattle.answer_core.specs.Formats.{format_text};
 ghost use Rattle.answer_core.specs.Answers.{IsError, TellsNothing};
-ghost use Rattle.answer_core.specs.Reads.{IsAnswerBy, IsDataAnswer};
+ghost use Rattle.answer_core.specs.Reads.{IsAnswerBy, IsDataAnswer, NamesItself};
 
 use crate::answer::{Answer, NO_GTIN, NO_PLACE};
 use crate::symbol::{SymbolKind, as_four, identified_symbol};
@@ -81,7 +81,8 @@ impl Answer {
     /// Writes an error.
     fn tell_error(&mut self, fault: u16, place: u16)
         requires { fault ≡ 0 → ⊥ }
-        ensures { IsError self.new }
+        ensures told { IsError self.new }
+        ensures named { NamesItself self.new }
     {
         self.name(SymbolKind::Unknown, [0; 4]);
         self.fault = fault;
@@ -93,7 +94,8 @@ impl Answer {
 
     /// Writes what a line seems to mean: its error, or its identifier and its elements.
     fn read_parts(&mut self, line: &[u8], terms: Year)
-        ensures { IsAnswerBy terms self.new }
+        ensures told { IsAnswerBy terms self.new }
+        ensures named { NamesItself self.new }
     {
         let Some((word, said)) = cut_at(b' ', line) else {
             return self.refuse_line();

@@ -86,6 +86,7 @@ fn place_of(at: usize, seen: &Seen) -> Place
     ensures names { (day until : Option (ℕ × ℕ × ℕ)) → IsDay seen.now.date day → IsDay seen.now.until until → Names day seen.now.time until result }
     ensures number { result.number ≡ number_index result.value (number_at seen.now.ai.now) }
     ensures decimals { result.decimals ≡ decimals_of (number_at seen.now.ai.now) }
+    ensures reserved { result.reserved ≡ 0 }
 {
     let value = at + seen.ai.len();
     let (number, decimals) = number_in(number_at(seen.ai), value);

@@ -1,6 +1,6 @@
 //! Which symbol was read, and its identifier.
 ghost use Rattle.std.specs.Prelude.{◌≡◌};
-ghost use Rattle.answer_core.specs.Symbols.{as_four, begins_zeros, carrier_symbol, ean_upc_symbol, sent_identifier, sent_symbol, symbol_number};
+ghost use Rattle.answer_core.specs.Symbols.{as_four, begins_zeros, carrier_symbol, ean_upc_symbol, identified_symbol, sent_identifier, sent_symbol, symbol_number};
 
 use message_core::{Head, Symbology};
 use scan_core::Carrier;
@@ -108,7 +108,9 @@ pub(crate) fn sent_identifier(head: Option<Head>) -> [u8; 4]
 
 /// The symbol of an identifier and an element string. For `]E0` it is a guess: an EAN-13, or a UPC-A if the GTIN has
 /// 12 digits.
-pub(crate) fn identified_symbol(identifier: [u8; 4], text: &[u8]) -> SymbolKind {
+pub(crate) fn identified_symbol(identifier: [u8; 4], text: &[u8]) -> SymbolKind
+    ensures { result ≡ identified_symbol identifier text.now }
+{
     match Symbology::named(&identifier[..3]) {
         None => SymbolKind::Unknown,
         Some(Symbology::EanUpc) => carrier_symbol(Carrier::Ean13, text),

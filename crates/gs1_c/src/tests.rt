@@ -1,11 +1,13 @@
 //! What each call puts, against values from outside.
 
 use crate::next::ElementPlace;
+use crate::value::{gs1_c_format, gs1_c_read_data};
 use crate::{
     gs1_c_date, gs1_c_digit, gs1_c_dots, gs1_c_dots_elements, gs1_c_find, gs1_c_find_dots,
     gs1_c_gtin, gs1_c_label, gs1_c_next, gs1_c_picture, gs1_c_row, gs1_c_row_elements, gs1_c_scan,
     gs1_c_status, gs1_c_text, gs1_c_text_elements, gs1_c_title,
 };
+use answer_core::Answer;
 use std::process::Abort;
 
 // 9501101530003 as EAN-13, its light ends included, at one dot a module, and the same as packed dots.
@@ -39,8 +41,16 @@ enum Asked {
     Dots(&'static [u8], u32, u16),
     DotsElements(&'static [u8], u32, u16),
     Scan(&'static [u8], u16),
+    Data(&'static [u8], u16),
     Date(&'static [u8], u16),
     Label(u32, &'static [u8], u16, u16),
+}
+
+/// The line of the answer whose line this is.
+fn read_back(line: &[u8], year: u16, out: &mut [u8]) -> usize {
+    let mut answer = Answer::new();
+    gs1_c_read_data(line, year, &mut answer);
+    gs1_c_format(&answer, 0, out)
 }
 
 /// What the call answers; a label in a cell of three rows, at one dot a module.
@@ -56,6 +66,7 @@ fn answer(asked: Asked, out: &mut [u8]) -> usize {
         Asked::Dots(bits, count, year) => gs1_c_dots(bits, count, year, out),
         Asked::DotsElements(bits, count, year) => gs1_c_dots_elements(bits, count, year, out),
         Asked::Scan(text, year) => gs1_c_scan(text, year, out),
+        Asked::Data(line, year) => read_back(line, year, out),
         Asked::Date(text, year) => gs1_c_date(text, year, out),
         Asked::Label(kind, text, year, width) => gs1_c_label(kind, text, year, 1, width, 3, out),
     }
@@ -140,6 +151,29 @@ const CASES: &[(Asked, &[u8])] = &[
     (Asked::Scan(b"]e010AB", 2026), b"]e0 10=AB"),
     (Asked::Scan(b"]d210AB", 2026), b"]d2 10=AB"),
     (Asked::Scan(b"]Q310AB", 2026), b"]Q3 10=AB"),
+    (
+        Asked::Data(b"]C1 10=A=B\t17=261231", 2026),
+        b"]C1 10=A=B\t17=261231",
+    ),
+    (
+        Asked::Data(b"- 01=09501101530003", 2026),
+        b"- 01=09501101530003",
+    ),
+    (
+        Asked::Data(b"refused 3 CheckDigit", 2026),
+        b"refused 3 CheckDigit",
+    ),
+    (
+        Asked::Data(b"refused 10 MissingSeparator 190", 2026),
+        b"refused 10 MissingSeparator 190",
+    ),
+    (Asked::Data(b"]C1 235=AB", 2026), b"refused 40 Kind"),
+    (Asked::Data(b"data 10=AB", 2026), b"refused 40 Kind"),
+    (
+        Asked::Data(b"refused 9 CheckDigit", 2026),
+        b"refused 40 Kind",
+    ),
+    (Asked::Data(b"]C1 10=AB", 1950), b"refused 42 Words"),
     (Asked::Scan(b"]J110AB", 2026), b"]J1 10=AB"),
     (Asked::Scan(b"]C1", 2026), b"refused 4 Empty"),
     (Asked::Scan(b"]C017261301", 2026), b"refused 40 Kind"),

@@ -37,7 +37,7 @@ loop-seen-preserved c =
       stand = one_more c.loop-seen.count c.args.year text es c.loop-seen.places p e behind i.stand left
           (stands_at c.args.year text rest s.ai.now s.value.now p i.from (omega (arith, shorter)) within en.ai en.value put.ai put.value put.end
           (subst (λ (t : Option (List ℕ)). Names (entry_day c.args.year e) t (entry_until c.args.year e) p) en.time
-          (put.names (entry_day c.args.year e) (entry_until c.args.year e) en.date en.until)) put.number put.decimals)
+          (put.names (entry_day c.args.year e) (entry_until c.args.year e) en.date en.until)) put.number put.decimals put.reserved)
           (omega (arith, sized, few, all, ap length en.elements));
     }
 
