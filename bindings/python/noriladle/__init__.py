@@ -104,6 +104,7 @@ _library.gs1_find_dots.argtypes = [_BYTES, _U32, _U16, _BYTES, _SIZE]
 _library.gs1_picture.argtypes = [
     ctypes.c_void_p, _SIZE, _U32, _U32, _SIZE, ctypes.c_uint8, _U16, ctypes.c_void_p, _SIZE, _BYTES, _SIZE]
 _library.gs1_picture_room.argtypes = [_U32, _U32]
+_library.gs1_status.argtypes = [_BYTES, _SIZE]
 _library.gs1_text.argtypes = [_BYTES, _SIZE, _U16, _BYTES, _SIZE]
 _library.gs1_digit.argtypes = [_BYTES, _SIZE, _BYTES, _SIZE]
 _library.gs1_gtin.argtypes = [_BYTES, _SIZE, _BYTES, _SIZE]
@@ -514,6 +515,13 @@ def _gtins(texts: Sequence[bytes]) -> List[Optional[str]]:
 def _said_in(line: bytes, terms: int) -> Union[Answer, Refusal]:
     """The answer or the error whose line this is, with the elements as data; of any other line, error 40."""
     return _said(_library.gs1_read_data, line, len(line), terms)
+
+
+def _fault_in(line: str) -> int:
+    """The number of the error that a line reports, or 0."""
+    answer = line.encode()
+    number: int = _library.gs1_status(answer, len(answer))
+    return number
 
 
 def _elements_at(text: str, places: bytes) -> Tuple[Element, ...]:

@@ -9,7 +9,7 @@ from bisect import bisect_left
 from itertools import accumulate
 from typing import Any, Awaitable, Callable, Dict, Iterator, List, Mapping, Optional, Tuple, Union
 
-from . import __version__
+from . import __version__, _fault_in
 from ._log import lines_dropped
 
 PATIENCE = 1.0
@@ -122,8 +122,8 @@ class Answers:
         """Counts some answers."""
         self._answers.add(by=len(answers))
         for said in answers:
-            if said.startswith("refused "):
-                self._refusals.add(said.split(" ")[1])
+            if number := _fault_in(said):
+                self._refusals.add(str(number))
 
 
 class Health:
