@@ -44,18 +44,22 @@ fn away(place: u32, modules: u32, ink: u32) -> u64
     square(place.saturating_add(NO_INK).abs_diff(48 * modules + ink))
 }
 
-fn misfit_of(inner: &[u32; 5], widths: &[u8; 6], ink: u32) -> u64
+/// The misfit of a character; one that is not less than `most` need not be exact.
+fn misfit_of(inner: &[u32; 5], widths: &[u8; 6], ink: u32, most: u64) -> u64
     requires { ink ≤ 93 }
 {
     let one = u32::from(widths[0]);
     let two = one + u32::from(widths[1]);
     let three = two + u32::from(widths[2]);
     let four = three + u32::from(widths[3]);
+    let spaces = away(inner[1], two, NO_INK).saturating_add(away(inner[3], four, NO_INK));
+    if spaces >= most {
+        return spaces;
+    }
     let five = four + u32::from(widths[4]);
-    away(inner[0], one, ink)
-        .saturating_add(away(inner[1], two, NO_INK))
+    spaces
+        .saturating_add(away(inner[0], one, ink))
         .saturating_add(away(inner[2], three, ink))
-        .saturating_add(away(inner[3], four, NO_INK))
         .saturating_add(away(inner[4], five, ink))
 }
 
@@ -81,7 +85,7 @@ fn nearest(inner: &[u32; 5], ink: u32, from: u8, to: u8) -> Likest
     };
     for character in from..to {
         let pattern = &CODES[usize::from(character)];
-        let misfit = misfit_of(inner, pattern, ink);
+        let misfit = misfit_of(inner, pattern, ink, best.misfit);
         if misfit < best.misfit {
             best = Likest {
                 character,
@@ -127,6 +131,16 @@ impl<'a> Rest<'a> {
         22 * u64::from(light) >= 5 * width && 55 * bar <= 16 * width && 110 * bar >= 9 * width
     }
 
+    /// Whether the fewest characters that a symbol has are as wide as their neighbours.
+    fn are_even(&self) -> bool {
+        for number in 0..3usize {
+            if !are_even(self.width(6 * number), self.width(6 * number + 6)) {
+                return false;
+            }
+        }
+        true
+    }
+
     /// The ink by which the first character is most like a start.
     fn start(&self) -> Option<Known> {
         let sure = sure_of(self.width(0) / 11);
@@ -153,7 +167,11 @@ impl<'a> Rest<'a> {
     /// Whether the stop stands here, with light behind it.
     fn is_stop(&self, first: usize, known: Known) -> bool {
         let inner = inner_at(self.ends, first);
-        if is_over(misfit_of(&inner, &CODES[106], known.ink), 14, known.sure) {
+        if is_over(
+            misfit_of(&inner, &CODES[106], known.ink, u64::MAX),
+            14,
+            known.sure,
+        ) {
             return false;
         }
         let width = u64::from(self.width(first));
@@ -216,7 +234,7 @@ impl<'a> Rest<'a> {
 
     /// What the ends of a window of Code 128 are, with so much light before it.
     pub(crate) fn read_code(&self, light: u32) -> Option<Reading> {
-        if self.ends.len() < 26 || !self.may_start(light) {
+        if self.ends.len() < 26 || !self.may_start(light) || !self.are_even() {
             return None;
         }
         let start = self.start()?;

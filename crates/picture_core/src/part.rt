@@ -1,4 +1,4 @@
-//! Whether ends may be part of a symbol: its characters are equally wide.
+//! Whether ends may be part of a symbol: its characters are equally wide, and its bars are not.
 
 /// How far it is over so many runs; 0 if they are not all there.
 fn width(ends: &[u32], first: usize, runs: usize) -> u32 {
@@ -38,4 +38,18 @@ pub(crate) fn is_part(ends: &[u32]) -> bool {
         }
     }
     false
+}
+
+/// Whether ends go on as those of a fence do: of eight distances between ends of the same kind seven or more are as wide
+/// as the next one, to an eighth. Those of a symbol differ by a module more often.
+pub(crate) fn are_regular(ends: &[u32]) -> bool {
+    let mut even = 0usize;
+    for first in 0..ends.len() {
+        let here = width(ends, first, 2);
+        let next = width(ends, first.saturating_add(2), 2);
+        if next > 0 && 16 * u64::from(here.abs_diff(next)) <= u64::from(here) + u64::from(next) {
+            even = even.saturating_add(1);
+        }
+    }
+    even.saturating_mul(8) >= ends.len().saturating_sub(4).saturating_mul(7)
 }

@@ -224,30 +224,42 @@ fn spans_of(blocks: &Blocks, patch: &[u32], frame: Frame) -> (Span, Span) {
     (us, vs)
 }
 
-/// The box around a patch that may be of a symbol has at most so many times its blocks.
-const SPARSE: i64 = 7;
+/// How much of the changes of a patch's blocks goes one way in the mean, of 100: little if there is only print.
+pub(crate) fn share_of(blocks: &Blocks, patch: &[u32]) -> u64 {
+    let mut sum = 0u64;
+    for number in patch {
+        sum = sum.saturating_add(u64::from(blocks.block(*number as usize).share));
+    }
+    sum.checked_div(patch.len() as u64).unwrap_or(0)
+}
 
-/// Whether the blocks of a patch are few in the box around them, as those of text are.
-pub(crate) fn is_sparse(blocks: &Blocks, patch: &[u32]) -> bool {
+/// Whether the box around a patch is larger than so many times its blocks, as that of text is.
+pub(crate) fn is_sparse(blocks: &Blocks, patch: &[u32], times: i64) -> bool {
     let (us, vs) = spans_of(blocks, patch, across(blocks, patch));
     let side = blocks.layout.side as i64;
     let long = (us.length() >> 16).saturating_add(side);
     let high = (vs.length() >> 16).saturating_add(side);
     let most = i64::try_from(patch.len())
         .unwrap_or(i64::MAX)
-        .saturating_mul(SPARSE)
+        .saturating_mul(times)
         .saturating_mul(side)
         .saturating_mul(side);
     long.saturating_mul(high) > most
 }
 
-/// At most this many rows through a patch, and beyond its ends.
-pub(crate) fn grid_over(blocks: &Blocks, patch: &[u32], frame: Frame, rows: u32) -> Grid {
+/// At most this many rows through a patch, and beyond its ends, that are so many dots apart or more.
+pub(crate) fn grid_over(
+    blocks: &Blocks,
+    patch: &[u32],
+    frame: Frame,
+    rows: u32,
+    apart: u32,
+) -> Grid {
     let (us, vs) = spans_of(blocks, patch, frame);
     let side = blocks.layout.side as i64 * ONE;
     let beyond = beyond(us.length(), side);
     let height = vs.length() + side;
-    let step = over(height, i64::from(rows)).max(ONE);
+    let step = over(height, i64::from(rows)).max(ONE * i64::from(apart));
     Grid {
         frame,
         left: us.least - beyond,

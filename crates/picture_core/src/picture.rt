@@ -139,45 +139,78 @@ impl<'a> Picture<'a> {
         Some(self.cubic_beside(column, row, x / 256 % 256, y / 256 % 256))
     }
 
-    /// What `cubic_at` gives, if no dot that counts there is beyond an edge.
+    /// What `cubic_at` gives at a place in 1/131072 dot, if no dot that counts there is beyond an edge: the first of the
+    /// four dots is less than `columns` dots from the left, and the upper row less than `rows` from the top.
     #[inline(always)]
-    fn inner_at(&self, x: u32, y: u32) -> Option<u32> {
-        let x = x.wrapping_sub(HALF);
-        let y = y.wrapping_sub(HALF);
-        let left = ((x / 65_536) as usize).wrapping_sub(1);
-        let row = (y / 65_536) as usize;
-        if left >= self.width().saturating_sub(3) || row >= self.height().saturating_sub(1) {
+    fn inner_at(&self, x: u64, y: u64, columns: usize, rows: usize) -> Option<u32>
+        requires columns { 0 < columns → columns + 3 ≤ self.now.width }
+        requires rows { 0 < rows → rows + 1 ≤ self.now.height }
+    {
+        let x = x.wrapping_sub(3 * 65_536);
+        let y = y.wrapping_sub(65_536);
+        let left = (x / 131_072) as usize;
+        let row = (y / 131_072) as usize;
+        if left >= columns || row >= rows {
             return None;
         }
         let above = self.row(row);
         let below = self.row(row + 1);
-        let down = y / 256 % 256;
+        let down = (y / 512 % 256) as u32;
         let dots = [
             mixed_in(above, below, left, down),
             mixed_in(above, below, left + 1, down),
             mixed_in(above, below, left + 2, down),
             mixed_in(above, below, left + 3, down),
         ];
-        Some(cubic_between(dots, x / 256 % 256))
+        Some(cubic_between(dots, x / 512 % 256))
     }
 
-    /// What `cubic_at` gives. Nothing is promised here: it is for what is looked at before anything is told, and takes less time.
-    #[inline(always)]
-    pub(crate) fn value_at(&self, x: u32, y: u32) -> Option<u32> {
-        match self.inner_at(x, y) {
-            Some(value) => Some(value),
-            None => self.cubic_at(x, y),
+    /// Adds to as many sums what `cubic_at` gives at places that are so far apart, in 1/131072 dot, up to the first that
+    /// is not in the picture; how many. Nothing is promised here: it is for what is looked at before anything is told.
+    pub(crate) fn add_along(
+        &self,
+        x: u64,
+        y: u64,
+        across: u64,
+        down: u64,
+        sums: &mut [u32],
+    ) -> usize {
+        let mut x = x;
+        let mut y = y;
+        let columns = self.width().saturating_sub(3);
+        let rows = self.height().saturating_sub(1);
+        for (sample, sum) in sums.iter_mut().enumerate() {
+            let value = match self.inner_at(x, y, columns, rows) {
+                Some(value) => Some(value),
+                None => self.cubic_at(whole(x), whole(y)),
+            };
+            let Some(value) = value else {
+                return sample;
+            };
+            *sum = sum.wrapping_add(value);
+            x = x.wrapping_add(across);
+            y = y.wrapping_add(down);
         }
+        sums.len()
     }
 }
 
+/// A place in 1/65536 dot, by the same in halves of that.
+fn whole(place: u64) -> u32 {
+    (place / 2 % 4_294_967_296) as u32
+}
+
 /// What `cubic_beside` has between the second of four dots and the third, this many 256ths of the way from one to the other, by powers of the part.
-fn cubic_between(dots: [u32; 4], part: u32) -> u32 {
+fn cubic_between(dots: [u32; 4], part: u64) -> u32 {
     let [one, two, three, four] = dots.map(u64::from);
-    let part = u64::from(part);
-    let third = (3 * two).wrapping_add(four).wrapping_sub(3 * three + one);
-    let second = (2 * one + 4 * three).wrapping_sub(5 * two + four);
-    let first = three.wrapping_sub(one);
+    let before = two.wrapping_sub(one);
+    let between = three.wrapping_sub(two);
+    let behind = four.wrapping_sub(three);
+    let third = before
+        .wrapping_add(behind)
+        .wrapping_sub(between.wrapping_mul(2));
+    let second = between.wrapping_sub(before).wrapping_sub(third);
+    let first = before.wrapping_add(between);
     let all = part
         .wrapping_mul(third)
         .wrapping_add(second.wrapping_mul(256));

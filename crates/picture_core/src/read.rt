@@ -6,7 +6,7 @@ ghost use Rattle.picture_core.specs.Told.{IsReadingOf};
 use crate::bands::read_own_rows;
 use crate::level::{level_of, middle_level};
 use crate::look::{LOOKS, read_patch};
-use crate::patch::{is_sparse, take_patch};
+use crate::patch::{is_sparse, share_of, take_patch};
 use crate::picture::Picture;
 use crate::reader::Reader;
 use crate::room::{Room, RowRoom};
@@ -27,8 +27,20 @@ const FIRST_LOOKS: usize = 2;
 
 const FEWEST_ENDS: usize = 20;
 
+/// If less than so much of the changes of a patch goes one way, of 100, it is mixed: for the first looks, and for the
+/// others.
+const FIRST_SHARE: u64 = 62;
+
+const LATE_SHARE: u64 = 68;
+
+/// The box around a patch that may be of a symbol is at most so many times its blocks: of one that is mixed, and of others,
+/// at which only the first looks are taken if it is larger.
+const MIXED: i64 = 3;
+
+const SPARSE: i64 = 7;
+
 /// How many dots looks take before no more patch is looked at, beside a quarter of those that the picture has.
-const MOST_TAKEN: usize = 2_000_000;
+const MOST_TAKEN: usize = 1_500_000;
 
 /// Leaves the blocks that are outside of what is found.
 fn leave_unknown(blocks: &mut Blocks, shown: &Shown) {
@@ -49,12 +61,22 @@ fn leave_patch(blocks: &mut Blocks, patch: &[u32]) {
     }
 }
 
-/// Notes of a patch whether part of a symbol was seen there, and leaves it if one of the first looks saw too few ends.
+/// Whether a patch is more like print than like a symbol.
+fn is_unlikely(blocks: &Blocks, patch: &[u32], is_late: bool) -> bool {
+    let least = if is_late { LATE_SHARE } else { FIRST_SHARE };
+    if share_of(blocks, patch) < least {
+        return is_sparse(blocks, patch, MIXED);
+    }
+    is_late && is_sparse(blocks, patch, SPARSE)
+}
+
+/// Notes of a patch whether part of a symbol was seen there, and leaves it if one of the first looks saw that there is
+/// none.
 fn note_patch(blocks: &mut Blocks, patch: &[u32], taken: Taken, is_first: bool) {
     for number in patch {
         blocks.mark(*number as usize, taken.show_part());
     }
-    if is_first && taken.ends < FEWEST_ENDS {
+    if is_first && taken.show_nothing(FEWEST_ENDS) {
         leave_patch(blocks, patch);
     }
 }
@@ -91,7 +113,7 @@ fn read_stripes(
             let is_other = if is_found {
                 is_late || count < most
             } else {
-                is_late && is_sparse(&*blocks, patch)
+                is_unlikely(&*blocks, patch, is_late)
             };
             if count < FEWEST_BLOCKS || (is_other && !blocks.shows_part(first)) {
                 leave_patch(blocks, patch);

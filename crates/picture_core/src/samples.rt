@@ -150,26 +150,13 @@ fn between(step: u32, sampling: Sampling) -> u64 {
     step.cast_unsigned()
 }
 
-/// A place in 1/65536 dot, by the same in halves of that.
-fn whole(place: u64) -> u32 {
-    (place / 2 % 4_294_967_296) as u32
-}
-
 /// Adds the values of a line to as many sums, up to the first that is not in the picture; how many.
 fn add_values(picture: &Picture, line: &SeenLine, lower: u32, sums: &mut [u32]) -> usize {
     let across = between(line.across, line.sampling);
     let down = between(line.down, line.sampling);
-    let mut x = 2 * u64::from(line.right_at(0, lower));
-    let mut y = 2 * u64::from(line.down_at(0, lower));
-    for (sample, sum) in sums.iter_mut().enumerate() {
-        let Some(value) = picture.value_at(whole(x), whole(y)) else {
-            return sample;
-        };
-        *sum = sum.wrapping_add(value);
-        x = x.wrapping_add(across);
-        y = y.wrapping_add(down);
-    }
-    sums.len()
+    let x = 2 * u64::from(line.right_at(0, lower));
+    let y = 2 * u64::from(line.down_at(0, lower));
+    picture.add_along(x, y, across, down, sums)
 }
 
 /// Puts the means of lines at the front of `values`, up to the first sample that is not in the picture; how many.

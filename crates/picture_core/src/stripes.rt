@@ -6,15 +6,21 @@ use crate::frame::{Spot, over, size_of};
 use crate::layout::Layout;
 use crate::picture::Picture;
 
-/// A block: twice the direction in which its grey values change, in 1/1024. One that is not striped has none.
+/// A block: twice the direction in which its grey values change, in 1/1024, and how much of the change goes that way,
+/// of 100. One that is not striped has none.
 #[derive(Clone, Copy)]
 pub(crate) struct Block {
     pub(crate) cos: i16,
     pub(crate) sin: i16,
+    pub(crate) share: u16,
 }
 
 /// One that is not striped.
-const PLAIN: Block = Block { cos: 0, sin: 0 };
+const PLAIN: Block = Block {
+    cos: 0,
+    sin: 0,
+    share: 0,
+};
 
 impl Block {
     pub(crate) fn is_striped(self) -> bool {
@@ -136,7 +142,14 @@ fn striped(changes: Changes, dots: i64) -> Block
     Block {
         cos: part_of(cos, size),
         sin: part_of(sin, size),
+        share: share_of(size, sum),
     }
+}
+
+/// How much of a sum a size is, of 100.
+fn share_of(size: i64, sum: i64) -> u16 {
+    let size = size.cast_unsigned().saturating_mul(100);
+    size.checked_div(sum.cast_unsigned()).unwrap_or(0).min(100) as u16
 }
 
 /// A part of a size, in 1/1024.
@@ -151,7 +164,8 @@ fn word_of(part: i16) -> u32 {
     u32::from(part.cast_unsigned())
 }
 
-/// So much more stands there if part of a symbol was seen in a block.
+/// So much more stands there for what else is known of a block: in the word of its cosine whether part of a symbol was
+/// seen there, in that of its sine its share.
 const PART: u32 = 65_536;
 
 fn part_in(word: u32) -> i16 {
@@ -228,7 +242,7 @@ impl<'a> Blocks<'a> {
     fn set(&mut self, number: usize, block: Block) {
         if number < self.cos.len() {
             self.cos[number] = word_of(block.cos);
-            self.sin[number] = word_of(block.sin);
+            self.sin[number] = word_of(block.sin).wrapping_add(PART * u32::from(block.share));
             self.taken[number] = 0;
         }
     }
@@ -241,6 +255,7 @@ impl<'a> Blocks<'a> {
         Block {
             cos: part_in(self.cos[number]),
             sin: part_in(self.sin[number]),
+            share: (self.sin[number] / PART) as u16,
         }
     }
 

@@ -7,7 +7,7 @@ ghost use Rattle.picture_core.specs.Samples.{step_of};
 ghost use Rattle.picture_core.specs.Sharp.{AreSeen};
 
 use crate::look::{LOOKS, Look};
-use crate::part::is_part;
+use crate::part::{are_regular, is_part};
 use crate::picture::Picture;
 use crate::place::half_way;
 use crate::reader::Reader;
@@ -32,13 +32,15 @@ pub(crate) struct Sighted {
     pub(crate) step: i64,
 }
 
-/// What looking at rows took: how many dots and rows; how many ends the row with the most has; and how many may show part of a symbol.
+/// What looking at rows took: how many dots and rows; how many ends the row with the most has; how many may show part of
+/// a symbol; and how many are those of a fence.
 #[derive(Clone, Copy, Default)]
 pub(crate) struct Taken {
     pub(crate) dots: usize,
     pub(crate) rows: usize,
     pub(crate) ends: usize,
     pub(crate) parts: usize,
+    pub(crate) fences: usize,
 }
 
 impl Taken {
@@ -49,7 +51,13 @@ impl Taken {
             rows: self.rows.saturating_add(row.rows),
             ends: self.ends.max(row.ends),
             parts: self.parts.saturating_add(row.parts),
+            fences: self.fences.saturating_add(row.fences),
         }
+    }
+
+    /// Whether no symbol stands there: no row has so many ends, or seven of eight rows are those of a fence.
+    pub(crate) fn show_nothing(self, fewest: usize) -> bool {
+        self.ends < fewest || self.fences.saturating_mul(8) >= self.rows.saturating_mul(7)
     }
 
     /// Whether so many of the rows may show part of a symbol that one may stand there: an eighth of them.
@@ -213,6 +221,7 @@ fn read_samples(
         ends: all.all().len(),
         rows: 1,
         parts: if is_part(all.all()) { 1 } else { 0 },
+        fences: if are_regular(all.all()) { 1 } else { 0 },
     };
     read_side(
         reader, range, samples, step, &turns, &all, false, row, tally, furthest,
