@@ -42,7 +42,7 @@ size_t gs1_c_scan_text(const struct gs1_answer *answer, const uint8_t *identifie
 size_t gs1_c_link(const struct gs1_answer *answer, const uint8_t *stem, size_t length, uint16_t year, uint8_t *out, size_t room);
 size_t gs1_c_conflicts(const struct gs1_answer *answer, struct gs1_conflict *out, size_t room);
 uint32_t gs1_c_compose(const struct gs1_element *elements, size_t count, uint16_t year, struct gs1_answer *answer);
-uint32_t gs1_c_kind_of_gtin(const struct gs1_answer *answer);
+uint32_t gs1_c_use_of_gtin(const struct gs1_answer *answer);
 size_t gs1_c_gtin_as(const struct gs1_answer *answer, uint32_t digits, uint8_t *out, size_t room);
 size_t gs1_c_unit(const uint8_t *ai, size_t length, uint8_t *out, size_t room);
 uint32_t gs1_c_measure(const struct gs1_look *look, const struct gs1_article *article, uint16_t year, struct gs1_measure *measure);
@@ -222,8 +222,8 @@ size_t gs1_conflicts(const struct gs1_answer *answer, struct gs1_conflict *confl
     return gs1_c_conflicts(answer ? answer : &no_answer, WRITE(struct gs1_conflict, conflicts, room));
 }
 
-int gs1_kind_of_gtin(const struct gs1_answer *answer) {
-    return (int)gs1_c_kind_of_gtin(answer ? answer : &no_answer);
+int gs1_use_of_gtin(const struct gs1_answer *answer) {
+    return (int)gs1_c_use_of_gtin(answer ? answer : &no_answer);
 }
 
 size_t gs1_gtin_as(const struct gs1_answer *answer, uint32_t digits, uint8_t *out, size_t room) {

@@ -126,10 +126,10 @@ LINES(read_messages) LINES(read_gtins)
 
 LINE(gtin_as, (const struct gs1_answer *answer, uint32_t digits, uint8_t *out, size_t room), answer, sizeof *answer, at, digits)
 
-uint32_t gs1_c_kind_of_gtin(const struct gs1_answer *answer) {
+uint32_t gs1_c_use_of_gtin(const struct gs1_answer *answer) {
     begin();
     const u64 at = given(answer, sizeof *answer);
-    return is_full ? 0 : Z_gs1Z_gs1_c_kind_of_gtin(&module, at);
+    return is_full ? 0 : Z_gs1Z_gs1_c_use_of_gtin(&module, at);
 }
 
 size_t gs1_c_conflicts(const struct gs1_answer *answer, struct gs1_conflict *out, size_t room) {

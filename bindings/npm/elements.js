@@ -3,7 +3,7 @@ import { AIS, countriesOf, currencyOf, numberOf, placeOf, unitOf } from "./page.
 
 // What there is of an element, in this order.
 export function elementOf({ ai, value, date, until, time }) {
-  const countries = countriesOf(ai, value), told = { ai, title: AIS.get(ai)?.title || undefined, value, date, until, time, number: /^3[07]$/.test(ai) ? value.replace(/^0+(?=\d)/, "") : numberOf(ai, value), unit: unitOf(ai),
+  const countries = countriesOf(ai, value), told = { ai, title: AIS.get(ai)?.title || undefined, value, date, until, time, number: /^(?:3[07]|8005)$/.test(ai) ? value.replace(/^0+(?=\d)/, "") : numberOf(ai, value), unit: unitOf(ai),
     currency: currencyOf(ai, value), countries: countries.length ? countries : undefined, place: placeOf(ai, value) };
   return Object.fromEntries(Object.entries(told).filter(([, it]) => it !== undefined));
 }

@@ -14,7 +14,13 @@ const MOST_WIDTHS = 131_072, MOST_BYTES = 262_144, MOST_U16 = 65_535;
 const LINES = 120, MOST_LINE = 700, ANSWER = 1_068, WORD = 2_048;
 
 // The kinds of conflicts, by their numbers in gs1.h, how many bytes each conflict has, and the most of an answer.
-const CONFLICTS = [undefined, "needs", "excludes", "differs", "country", "currency", "prefix"], CONFLICT = 48, MOST_CONFLICTS = 240;
+const CONFLICTS = [undefined, "needs", "excludes", "differs", "country", "currency", "prefix", "trade_item"], CONFLICT = 48, MOST_CONFLICTS = 240;
+
+// What codes are not, if the kind of conflict does not say it.
+const NO = { prefix: "GS1 Company Prefix", trade_item: "number of a trade item" };
+
+// What GTINs identify, by the numbers in gs1.h.
+const GTIN_USES = [undefined, "trade_item", "in_store", "coupon", "issn", "ismn", "isbn", "zeros"];
 
 // For calls whose answer has no day.
 const ANY_YEAR = 2000;
@@ -284,6 +290,11 @@ class Gs1 {
     return noting(askedOf("readGtin", text, ask), () => ask(text));
   }
 
+  gtinUse(text) {
+    this.readGtin(text);
+    return GTIN_USES[this.#calls.calls.gs1_c_use_of_gtin(BigInt(this.#calls.output))];
+  }
+
   checkDigit(text) {
     const ask = (it) => Number(this.#ask("gs1_c_digit", ...this.#put(bytesOf(it))).slice("digit ".length));
     return noting(askedOf("checkDigit", text, ask), () => ask(text));
@@ -398,7 +409,7 @@ function conflictOf(elements, [kind, element, other, ...text]) {
 function conflictWords({ kind, element, other, code }) {
   if (kind === "needs") return ` needs ${code.replaceAll(",", " or ")}`;
   if (kind === "excludes") return ` excludes ${other.ai}`;
-  return kind === "differs" ? `: ${other.value} and ${element.value} differ` : `: ${code} is no ${kind === "prefix" ? "GS1 Company Prefix" : kind}`;
+  return kind === "differs" ? `: ${other.value} and ${element.value} differ` : `: ${code} is no ${NO[kind] ?? kind}`;
 }
 
 const answerOf = ({ identifier, symbol, elements }) => new Answer(identifier || undefined, symbol, elements);

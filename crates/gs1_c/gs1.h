@@ -305,7 +305,7 @@ size_t gs1_link(const struct gs1_answer *answer, const uint8_t *stem, size_t len
 /* What is wrong with an element beside the others: it needs an element of one of the AIs of `text`, such as "01,02,310n", in which n stands for
  * any digit; it excludes the element `other`; the element `other`, before it, has the same AI and another value; or `text` is a code of no
  * country (ISO 3166), a code of no currency (ISO 4217), the beginning of a value that begins with no GS1 Company Prefix, or a GTIN that identifies
- * no trade item: it is GS1_IN_STORE, GS1_COUPON or GS1_ZEROS of enum gs1_gtin_kind. */
+ * no trade item: it is GS1_IN_STORE, GS1_COUPON or GS1_ZEROS of enum gs1_gtin_use. */
 enum gs1_conflict_kind {
     GS1_NEEDS = 1, GS1_EXCLUDES = 2, GS1_DIFFERS = 3, GS1_NO_COUNTRY = 4, GS1_NO_CURRENCY = 5, GS1_NO_PREFIX = 6, GS1_NO_TRADE_ITEM = 7
 };
@@ -324,18 +324,18 @@ size_t gs1_conflicts(const struct gs1_answer *answer, struct gs1_conflict *confl
 /* What a GTIN identifies, by its first digits. The standard reserves 02, 04 and 2 for numbers that shops and companies give themselves, 980 for refund
  * receipts, 981 to 984 and 99 for coupons, as 05 was, 977 for serial publications (ISSN), 9790 for printed music (ISMN), and 978 and 979 for
  * books (ISBN). Of eight digits, those that begin with 0 or 2 are of shops. Zeros alone identify nothing. */
-enum gs1_gtin_kind {
+enum gs1_gtin_use {
     GS1_NO_GTIN = 0, GS1_TRADE_ITEM = 1, GS1_IN_STORE = 2, GS1_COUPON = 3, GS1_ISSN = 4, GS1_ISMN = 5, GS1_ISBN = 6, GS1_ZEROS = 7
 };
 
-/* What the GTIN of an answer identifies: a number of enum gs1_gtin_kind. */
-int gs1_kind_of_gtin(const struct gs1_answer *answer);
+/* What the GTIN of an answer identifies: a number of enum gs1_gtin_use. */
+int gs1_use_of_gtin(const struct gs1_answer *answer);
 
 /* The GTIN of an answer as 8, 12, 13 or 14 digits. It has no bytes if there is no GTIN or it has more digits, and for any other number of `digits`. */
 size_t gs1_gtin_as(const struct gs1_answer *answer, uint32_t digits, uint8_t *out, size_t room);
 
-/* The unit of the number of an element, by its AI, in UTF-8, such as `kg` for `3103`, `%` or `°C`: of measures, percentages and temperatures. It
- * has no bytes for any other AI, and at most GS1_UNIT. */
+/* The unit of the number of an element, by its AI, in UTF-8, such as `kg` for `3103`: of measures, percentages and temperatures. It has no
+ * bytes for any other AI, and at most GS1_UNIT. */
 size_t gs1_unit(const uint8_t *ai, size_t length, uint8_t *out, size_t room);
 
 /* ---- Labels laid out: what is drawn of an article, and where. Each call returns 0, or the number of the error. Lengths are dots unless a

@@ -25,7 +25,7 @@ sys.path.insert(0, str(ROOT / "bindings" / "python"))
 sys.dont_write_bytecode = True
 import noriladle
 
-KINDS = ("", "needs", "excludes", "differs", "country", "currency", "prefix")
+KINDS = ("", "needs", "excludes", "differs", "country", "currency", "prefix", "trade_item")
 
 
 def ais_of(span: str) -> list[str]:
@@ -64,6 +64,16 @@ def asked(at: int, elements: list[tuple[str, str]]) -> Iterator[tuple[int, str, 
             yield at, "excludes", like[0], ""
 
 
+def is_no_item(gtin: str) -> bool:
+    """Whether 14 digits are those of a shop or a coupon, by the figures of the GS1 General Specifications, section 1.4.2, or zeros alone."""
+    if len(gtin) != 14 or not gtin.strip("0"):
+        return len(gtin) == 14
+    if gtin[1:6] == "00000":
+        return gtin[6:9] < "100" or "200" <= gtin[6:9] <= "299"
+    prefix = gtin[1:4]
+    return any(first <= prefix <= last for first, last in (("020", "029"), ("040", "059"), ("200", "299"), ("980", "984"), ("990", "999")))
+
+
 def code_of(ai: str, value: str) -> tuple[str, str] | None:
     """The first code of a value that is in no list, and what it should be."""
     if ai in ("423", "425"):
@@ -77,6 +87,8 @@ def code_of(ai: str, value: str) -> tuple[str, str] | None:
         return "country", value
     if len(ai) == 4 and ai[:3] in ("391", "393") and value[:3] not in CURRENCIES:
         return "currency", value[:3]
+    if ai in ("01", "02", "03", "8006", "8026") and is_no_item(value[:14]):
+        return "trade_item", value[:14]
     if ai == "401" and not (len(value) >= 4 and value[:4].isdecimal()):
         return "prefix", value[:4]
     return None
@@ -135,6 +147,9 @@ def lists(chance: random.Random) -> Iterator[list[tuple[str, str]]]:
             elif ai in coded:
                 value = "".join(chance.choice(codes) for _ in range(chance.choice([1, 1, 2, 3] if ai in ("423", "425") else [1])))
                 value = chance.choice([value, "A1", "9521A"]) if ai == "401" else value
+            elif ai in ("01", "02", "03", "8006", "8026") and chance.random() < 0.7:
+                front = chance.choice(["0", "1", "9"]) + chance.choice([f"{chance.randrange(10_000):04d}", "9790", "00000" + f"{chance.randrange(10_000):04d}"])
+                value = chance.choice([front.ljust(14, "0"), front.ljust(14, "5"), "0" * 14, front]) + ("0102" if len(ai) == 4 else "")
             else:
                 value = chance.choice(["1", "2", "12", "n,n"])
             elements.append((ai, value))

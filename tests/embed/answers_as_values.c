@@ -117,6 +117,111 @@ static void compare_format(const struct gs1_answer *answer, const char *word, co
     }
 }
 
+/* An answer of the elements of another: the same, without a symbol; with one of them wrong, its index. */
+static void compare_composed(const struct gs1_answer *answer, uint16_t year) {
+    struct gs1_element elements[48];
+    struct gs1_answer again;
+    memset(&again, 0x33, sizeof again);
+    for (unsigned i = 0; i < answer->count; i++) {
+        const struct gs1_place *it = &answer->element[i];
+        elements[i].ai = (struct gs1_bytes){answer->text + it->ai, (size_t)(it->value - it->ai)};
+        elements[i].value = (struct gs1_bytes){answer->text + it->value, (size_t)(it->end - it->value)};
+    }
+    same_number("composed", (unsigned long)gs1_compose(elements, answer->count, year, &again), 0);
+    same_number("composed count", again.count, answer->count);
+    same_number("composed length", again.length, answer->length);
+    same_number("composed GTIN", again.gtin, answer->gtin);
+    same_number("composed symbol", again.symbol || again.identifier[0], 0);
+    same_number("composed text", (unsigned long)memcmp(again.text, answer->text, answer->length), 0);
+    same_number("composed elements", (unsigned long)memcmp(again.element, answer->element, answer->count * sizeof *answer->element), 0);
+    unsigned last = answer->count - 1u;
+    elements[last].value = (struct gs1_bytes){(const uint8_t *)"\x1d", 1};
+    same_number("composed of a wrong one", gs1_compose(elements, answer->count, year, &again) != 0, 1);
+    same_number("the wrong one", again.place, last);
+    elements[last].ai = (struct gs1_bytes){NULL, 9};
+    same_number("composed without an AI", (unsigned long)gs1_compose(elements, answer->count, year, &again), GS1_FAULT_UNKNOWN_AI);
+    same_number("the one without", again.place, last);
+}
+
+/* The GTIN of an answer with fewer digits: without its zeros, if it has them. */
+static void compare_gtin(const struct gs1_answer *answer) {
+    static const uint32_t counts[] = {0, 7, 8, 9, 12, 13, 14, 15, 4294967295u};
+    for (size_t i = 0; i < sizeof counts / sizeof *counts; i++) {
+        struct line got = {.count = 0}, wanted = {.count = 0};
+        uint32_t count = counts[i];
+        int is_length = count == 8 || count == 12 || count == 13 || count == 14;
+        if (answer->gtin != GS1_NONE && is_length) {
+            const uint8_t *digits = answer->text + answer->element[answer->gtin].value;
+            if (strspn((const char *)digits, "0") >= 14 - count) put(&wanted, digits + 14 - count, count);
+        }
+        got.count = gs1_gtin_as(answer, count, (uint8_t *)got.at, sizeof got.at);
+        same("GTIN in fewer digits", &got, (const uint8_t *)wanted.at, wanted.count);
+    }
+    same_number("kind of GTIN", gs1_use_of_gtin(answer) == GS1_NO_GTIN, answer->gtin == GS1_NONE);
+}
+
+/* GTINs and what they identify: as in figure "GS1 Prefixes" of the GS1 General Specifications, section 1.4.2. */
+static void kinds_of_gtins(void) {
+    static const struct {
+        const char *digits;
+        int kind;
+    } all[] = {
+        {"9501101530003", GS1_TRADE_ITEM}, {"4006381333931", GS1_TRADE_ITEM}, {"036000291452", GS1_TRADE_ITEM}, {"96385074", GS1_TRADE_ITEM},
+        {"19501101530000", GS1_TRADE_ITEM}, {"0200000000004", GS1_IN_STORE}, {"0299999999994", GS1_IN_STORE}, {"0300000000001", GS1_TRADE_ITEM},
+        {"0199999999997", GS1_TRADE_ITEM}, {"0400000000008", GS1_IN_STORE}, {"212345678909", GS1_IN_STORE}, {"2012345678903", GS1_IN_STORE},
+        {"2999999999991", GS1_IN_STORE}, {"3000000000007", GS1_TRADE_ITEM}, {"1999999999992", GS1_TRADE_ITEM}, {"00000017", GS1_IN_STORE},
+        {"20000011", GS1_IN_STORE}, {"10000014", GS1_TRADE_ITEM}, {"50000012", GS1_TRADE_ITEM}, {"0500000000005", GS1_COUPON},
+        {"9770317847001", GS1_ISSN}, {"9783161484100", GS1_ISBN}, {"9790260000438", GS1_ISMN}, {"9791090636071", GS1_ISBN},
+        {"9800000000007", GS1_COUPON}, {"9810000000006", GS1_COUPON}, {"9840000000003", GS1_COUPON}, {"9850000000002", GS1_TRADE_ITEM},
+        {"9900000000004", GS1_COUPON}, {"9999999999994", GS1_COUPON}, {"9890000000008", GS1_TRADE_ITEM}, {"00000000000000", GS1_ZEROS},
+        {"00000000", GS1_ZEROS}, {"9501101530004", GS1_NO_GTIN},
+    };
+    struct gs1_answer answer;
+    for (size_t i = 0; i < sizeof all / sizeof *all; i++) {
+        gs1_read_gtin((const uint8_t *)all[i].digits, strlen(all[i].digits), 2026, &answer);
+        same_number(all[i].digits, (unsigned long)gs1_use_of_gtin(&answer), (unsigned long)all[i].kind);
+    }
+    gs1_read_elements((const uint8_t *)"10AB", 4, 2026, &answer);
+    same_number("kind of no GTIN", (unsigned long)(gs1_use_of_gtin(&answer) + gs1_use_of_gtin(NULL)), 0);
+}
+
+/* Units of AIs: as in the GS1 General Specifications, section 3.6. */
+static void units_of_ais(void) {
+    static const char *const all[][2] = {
+        {"3103", "kg"}, {"3302", "kg"}, {"3110", "m"}, {"3141", "m\xc2\xb2"}, {"3155", "l"}, {"3160", "m\xc2\xb3"}, {"3201", "lb"}, {"3270", "in"}, {"3280", "ft"},
+        {"3290", "yd"}, {"3370", "kg/m\xc2\xb2"}, {"3500", "in\xc2\xb2"}, {"3560", "t oz"}, {"3570", "oz"}, {"3600", "qt"}, {"3610", "gal"}, {"3690", "yd\xc2\xb3"},
+        {"3940", "%"}, {"4330", "\xc2\xb0" "F"}, {"4331", "\xc2\xb0" "C"}, {"4332", "\xc2\xb0" "F"}, {"4333", "\xc2\xb0" "C"}, {"30", ""}, {"37", ""},
+        {"3922", ""}, {"8005", ""}, {"01", ""}, {"", ""}, {"31", ""}, {"31031", ""},
+    };
+    for (size_t i = 0; i < sizeof all / sizeof *all; i++) {
+        struct line got = {.count = 0};
+        got.count = gs1_unit((const uint8_t *)all[i][0], strlen(all[i][0]), (uint8_t *)got.at, GS1_UNIT);
+        same(all[i][0], &got, (const uint8_t *)all[i][1], strlen(all[i][1]));
+    }
+    same_number("unit of no AI", (unsigned long)gs1_unit(NULL, 4, NULL, 9), 0);
+}
+
+/* Elements that no answer has room for, or that are none. */
+static void composed_of_others(void) {
+    static const struct gs1_element lot = {{(const uint8_t *)"10", 2}, {(const uint8_t *)"A", 1}};
+    static uint8_t letters[300];
+    struct gs1_element many[60];
+    struct gs1_answer answer;
+    memset(letters, 'A', sizeof letters);
+    for (size_t i = 0; i < 60; i++) many[i] = lot;
+    same_number("48 elements", (unsigned long)gs1_compose(many, 48, 2026, &answer), 0);
+    same_number("48 elements", answer.count * 1000u + answer.length, 48191);
+    for (size_t count = 49; count <= 60; count++) same_number("more elements", (unsigned long)gs1_compose(many, count, 2026, &answer), GS1_FAULT_TOO_LONG);
+    same_number("place of none", answer.place, GS1_NO_PLACE);
+    many[1].value = (struct gs1_bytes){letters, 300};
+    same_number("long value", (unsigned long)gs1_compose(many, 2, 2026, &answer), GS1_FAULT_TOO_LONG);
+    many[1].value.count = 192;
+    same_number("longer value", (unsigned long)gs1_compose(many, 2, 2026, &answer), GS1_FAULT_VALUE_LENGTH);
+    same_number("place of the longer one", answer.place, 1);
+    same_number("no elements", (unsigned long)gs1_compose(NULL, 3, 2026, &answer), GS1_FAULT_EMPTY);
+    same_number("no year", (unsigned long)gs1_compose(many, 1, 1950, NULL), GS1_FAULT_WORDS);
+}
+
 /* An answer beside the line of the call before. */
 static void compare(const char *what, int fault, const struct gs1_answer *answer, const char *word, const uint8_t *line, size_t count,
                     uint16_t year) {
@@ -134,6 +239,8 @@ static void compare(const char *what, int fault, const struct gs1_answer *answer
     put_pairs(&got, answer);
     same(what, &got, line, count);
     compare_dates(answer, year);
+    compare_composed(answer, year);
+    compare_gtin(answer);
 }
 
 static void compare_text(const uint8_t *text, size_t length, uint16_t year) {
@@ -203,7 +310,7 @@ static void conflicts_of_any(const struct gs1_answer *answer, size_t room) {
     same_number("conflicts again", (unsigned long)memcmp(some, all, first * sizeof *all), 0);
     same_number("beyond the conflicts", some[room].kind, 0x5c);
     for (size_t i = 0; i < count; i++) {
-        same_number("kind of a conflict", all[i].kind < GS1_NEEDS || all[i].kind > GS1_NO_PREFIX || all[i].text[44], 0);
+        same_number("kind of a conflict", all[i].kind < GS1_NEEDS || all[i].kind > GS1_NO_TRADE_ITEM || all[i].text[44], 0);
         same_number("element of a conflict", all[i].element >= elements || (i && all[i].element < all[i - 1].element), 0);
         same_number("other element", all[i].other != 255, all[i].kind == GS1_EXCLUDES || all[i].kind == GS1_DIFFERS);
     }
@@ -285,6 +392,10 @@ int main(int count, char **words) {
     same_number("no link", (unsigned long)gs1_link(NULL, NULL, 3, 2026, NULL, 9), strlen("refused 40 Kind"));
     same_number("no year", (unsigned long)gs1_link(NULL, NULL, 3, 1950, NULL, 9), strlen("refused 42 Words"));
     same_number("no lines", (unsigned long)(gs1_read_messages(NULL, 3, 2026, &answer, 1, NULL) + gs1_read_gtins((const uint8_t *)"1", 1, 2026, NULL, 9, NULL)), 0);
+    same_number("no GTIN", (unsigned long)gs1_gtin_as(NULL, 14, NULL, 9), 0);
+    kinds_of_gtins();
+    units_of_ais();
+    composed_of_others();
     if (!rows) format_any(1000000);
     printf("%lu answers as values, %lu differ\n", asked, wrong);
     return wrong ? 1 : 0;

@@ -47,6 +47,17 @@ static void scan_text(const uint8_t *text, size_t length) {
 static void link_of(const uint8_t *text, size_t length) {
     read_message(text, length), gs1_link(&answer, (const uint8_t *)"https://id.gs1.org", 18, YEAR, out, sizeof out);
 }
+static void compose(const uint8_t *text, size_t length) {
+    struct gs1_element elements[48] = {0};
+    read_message(text, length);
+    for (unsigned i = 0; i < answer.count; i++)
+        elements[i].ai = (struct gs1_bytes){answer.text + answer.element[i].ai, (size_t)(answer.element[i].value - answer.element[i].ai)},
+        elements[i].value = (struct gs1_bytes){answer.text + answer.element[i].value, (size_t)(answer.element[i].end - answer.element[i].value)};
+    struct gs1_answer composed;
+    gs1_compose(elements, answer.count, YEAR, &composed);
+}
+static void gtin_as(const uint8_t *text, size_t length) { read_message(text, length), gs1_use_of_gtin(&answer), gs1_gtin_as(&answer, 13, out, sizeof out); }
+static void unit(const uint8_t *text, size_t length) { gs1_unit(text, length, out, sizeof out); }
 static void conflicts(const uint8_t *text, size_t length) { read_message(text, length), gs1_conflicts(&answer, (struct gs1_conflict *)out, 48); }
 
 static void draw(const uint8_t *text, size_t length) {
@@ -114,6 +125,7 @@ int main(int count, char **words) {
         {"gs1_read_data", read_data, line, strlen(line)}, {"gs1_format", format, LINK, sizeof LINK - 1},
         {"gs1_conflicts", conflicts, LINK, sizeof LINK - 1}, {"gs1_read_messages", read_messages, LINK, sizeof LINK - 1},
         {"gs1_read_gtins", read_gtins, "9501101530003", 13}, {"gs1_scan_text", scan_text, LINK, sizeof LINK - 1}, {"gs1_link", link_of, LINK, sizeof LINK - 1},
+        {"gs1_compose", compose, LINK, sizeof LINK - 1}, {"gs1_gtin_as", gtin_as, LINK, sizeof LINK - 1}, {"gs1_unit", unit, "3103", 4},
     };
     size_t most = 0, empty = stack_of((struct asked){"nothing", nothing, NULL, 0});
     for (size_t i = 0; i < sizeof all / sizeof *all; i++) {

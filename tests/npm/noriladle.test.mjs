@@ -167,12 +167,19 @@ test("element strings of elements", () => {
   assert.throws(() => gs1.compose([["10", "AB"]], 1900), { number: 42 });
 });
 
+test("what GTINs identify", () => {
+  const kinds = ["9501101530003", "02012345678903", "9812345678902", "9770317847001", "9790260000438", "9783161484100", "00000000", new TextEncoder().encode("96385074")].map((it) => gs1.gtinUse(it));
+  assert.deepEqual(kinds, ["trade_item", "in_store", "coupon", "issn", "ismn", "isbn", "zeros", "trade_item"]);
+  assert.throws(() => gs1.gtinUse("9501101530004"), { number: 3, fixes: ["9501101530003"] });
+});
+
 test("what is asked of elements that stand together", () => {
   const texts = (elements) => gs1.conflicts(elements).map(({ text }) => text);
   assert.deepEqual(texts([{ ai: "02", value: "1" }]), ["02 needs 37"]);
   assert.deepEqual(texts([{ ai: "01", value: "1" }, { ai: "37", value: "1" }]), ["01 excludes 37", "37 needs 02 or 8026"]);
   assert.deepEqual(texts([{ ai: "422", value: "281" }, { ai: "3932", value: "000195" }, { ai: "401", value: "AB" }, { ai: "7030", value: "999A" }, { ai: "01", value: "1" }, { ai: "30", value: "1" }]),
     ["422: 281 is no country", "3932: 000 is no currency", "401: AB is no GS1 Company Prefix"]);
+  assert.deepEqual(texts([{ ai: "01", value: "02012345678903" }, { ai: "01", value: "09783161484100" }])[0], "01: 02012345678903 is no number of a trade item");
   const answer = gs1.readScan("]C1172612310109501101530003" + "17271231", 2026), [found, ...others] = gs1.conflicts(answer);
   assert.deepEqual([found.kind, found.element, found.other, found.code, found.text, others], ["differs", answer.elements[2], answer.elements[0], "", "17: 261231 and 271231 differ", []]);
   assert.deepEqual([gs1.conflicts([]), gs1.conflicts(gs1.readScan("9501101530003", 2026))], [[], []]);

@@ -41,8 +41,8 @@ if TYPE_CHECKING:
     from .picture import Picture
 
 __all__ = [
-    "Ais", "Answer", "Box", "Conflict", "ConflictKind", "Element", "Found", "Kind", "LabelSymbol", "Place", "Refusal", "Symbol", "SymbolKind", "Symbols",
-    "check_digit", "compose", "conflicts", "draw_label", "find", "find_dots", "label_symbol", "parse_elements", "read_dots",
+    "Ais", "Answer", "Box", "Conflict", "ConflictKind", "Element", "Found", "GtinUse", "Kind", "LabelSymbol", "Place", "Refusal", "Symbol", "SymbolKind", "Symbols",
+    "check_digit", "compose", "conflicts", "draw_label", "find", "find_dots", "gtin_use", "label_symbol", "parse_elements", "read_dots",
     "read_elements", "read_gtin", "read_gtins", "read_picture", "read_row", "read_scan", "read_scans", "read_text",
 ]
 
@@ -63,8 +63,15 @@ Ais = Literal["all", "profile"]
 SymbolKind = Literal["ean13", "upca", "upce", "ean8", "itf14", "gs1128", "databar", "datamatrix", "qr_code", "dotcode"]
 """The kinds of symbols that scanners read."""
 
-ConflictKind = Literal["needs", "excludes", "differs", "country", "currency", "prefix"]
-"""What may be wrong with an element beside others."""
+ConflictKind = Literal["needs", "excludes", "differs", "country", "currency", "prefix", "trade_item"]
+"""What may be wrong with an element beside others, or what a code in it is not."""
+
+_NO: Dict[ConflictKind, str] = {"prefix": "GS1 Company Prefix", "trade_item": "number of a trade item"}
+"""What codes are not, if the kind of conflict does not say it."""
+
+GtinUse = Literal["trade_item", "in_store", "coupon", "issn", "ismn", "isbn", "zeros"]
+"""What a GTIN identifies: a trade item, what a company or a shop numbers itself, a coupon or a refund receipt, a serial publication, printed music, a
+book, or nothing, if it is zeros alone."""
 
 _SYMBOLS: Tuple[Optional[SymbolKind], ...] = (None, *get_args(SymbolKind))
 """Those of ``enum gs1_symbol_kind``, by their numbers."""
@@ -99,6 +106,8 @@ _library.gs1_read_row.argtypes = [_WIDTHS, _SIZE, _U16, _RawAnswer]
 _library.gs1_read_dots.argtypes = [_BYTES, _U32, _U16, _RawAnswer]
 _library.gs1_scan_text.argtypes = _library.gs1_link.argtypes = [_RawAnswer, _BYTES, _SIZE, _U16, _BYTES, _SIZE]
 _library.gs1_conflicts.argtypes = [_RawAnswer, _RawConflicts, _SIZE]
+_library.gs1_use_of_gtin.argtypes = [_RawAnswer]
+_library.gs1_unit.argtypes = [_BYTES, _SIZE, _BYTES, _SIZE]
 _library.gs1_find.argtypes = [_WIDTHS, _SIZE, _U16, _BYTES, _SIZE]
 _library.gs1_find_dots.argtypes = [_BYTES, _U32, _U16, _BYTES, _SIZE]
 _library.gs1_picture.argtypes = [
@@ -111,7 +120,7 @@ _library.gs1_gtin.argtypes = [_BYTES, _SIZE, _BYTES, _SIZE]
 _library.gs1_symbol.argtypes = [_U32, _BYTES, _SIZE, _U16, _BYTES, _SIZE]
 _library.gs1_label.argtypes = [_U32, _BYTES, _SIZE, _U16, _U16, _U16, _U16, _BYTES, _SIZE]
 for _name in ("gs1_text", "gs1_find", "gs1_find_dots", "gs1_picture", "gs1_picture_room", "gs1_digit", "gs1_gtin", "gs1_label", "gs1_symbol", "gs1_conflicts",
-              "gs1_read_messages", "gs1_read_gtins", "gs1_scan_text", "gs1_link"):
+              "gs1_read_messages", "gs1_read_gtins", "gs1_scan_text", "gs1_link", "gs1_unit"):
     getattr(_library, _name).restype = _SIZE
 
 
@@ -231,7 +240,8 @@ class Element:
 
     @property
     def number(self) -> Optional[Decimal]:
-        """The number of a count, a measure, an amount, a price, a percentage or a temperature (30, 37, 310n to 369n, 390n to 395n, 433n).
+        """The number of a count, a measure, an amount, a price, a percentage or a temperature (30, 37, 310n to 369n, 390n to 395n, 433n, 8005). Of the
+        price of a unit, 8005, the standard does not say how many digits are decimals, so it has none here.
 
         >>> Element("3932", "978000195").number
         Decimal('1.95')
@@ -245,7 +255,8 @@ class Element:
         >>> str(Element("4331", "001850-").number), Element("4331", "001850-").unit
         ('-18.50', '°C')
         """
-        return _values.unit(self.ai)
+        ai = self.ai.encode("ascii", "replace")
+        return _ask(_library.gs1_unit, ai, len(ai)).decode() or None
 
     @property
     def currency(self) -> Optional[str]:
@@ -325,7 +336,7 @@ class Answer:
     @property
     def gtin(self) -> Optional[str]:
         """The 14 digits of the GTIN, wherever 01 stands; None if there is none, or two that differ."""
-        values = {element.value for element in self.elements if element.ai == "01"}
+        values = {value for ai, value in _pairs(self) if ai == "01"}
         return values.pop() if len(values) == 1 else None
 
     def gtin_as(self, digits: int) -> Optional[str]:
@@ -834,6 +845,20 @@ def read_gtin(text: Union[str, bytes]) -> str:
     return element[len("01"):]
 
 
+def gtin_use(text: Union[str, bytes]) -> GtinUse:
+    """What a GTIN identifies, by its first digits.
+
+        >>> gtin_use("9501101530003"), gtin_use("9783161484100"), gtin_use("2012345678903")
+        ('trade_item', 'isbn', 'in_store')
+
+    :raises Refusal: as :func:`read_gtin`.
+    """
+    digits, raw = read_gtin(text).encode("ascii"), _RawAnswer()
+    _library.gs1_read_gtin(digits, len(digits), _ANY_YEAR, raw)
+    kinds: Tuple[GtinUse, ...] = get_args(GtinUse)
+    return kinds[_library.gs1_use_of_gtin(raw) - 1]
+
+
 def check_digit(text: Union[str, bytes]) -> int:
     """The check digit for 1 to 17 digits.
 
@@ -934,7 +959,7 @@ class Conflict(NamedTuple):
     """The element that it excludes, or the one before it that has another value."""
     text: str
     """The Application Identifiers, one of which it needs, such as ``02,310n``, where ``n`` stands for any digit; or the code
-    that is in no list."""
+    that is in no list, or the GTIN that identifies no trade item."""
 
     def __str__(self) -> str:
         ai = self.element.ai
@@ -942,12 +967,12 @@ class Conflict(NamedTuple):
             return f"{ai}: {self.other.value} and {self.element.value} differ" if self.kind == "differs" else f"{ai} excludes {self.other.ai}"
         if self.kind == "needs":
             return f"{ai} needs {self.text.replace(',', ' or ')}"
-        return f"{ai}: {self.text} is no {'GS1 Company Prefix' if self.kind == 'prefix' else self.kind}"
+        return f"{ai}: {self.text} is no {_NO.get(self.kind, self.kind)}"
 
 
 def conflicts(elements: Iterable[Element]) -> List[Conflict]:
     """What the standard asks of elements that stand together and is not so, Application Identifiers that stand twice with
-    different values, and codes of countries and currencies that are in no list.
+    different values, codes of countries and currencies that are in no list, and GTINs that identify no trade item.
 
         >>> answer = read_scan("]C10109501101530003" "375\\x1d" "422281", year=2026)
         >>> [str(it) for it in conflicts(answer)]

@@ -41,14 +41,19 @@ class Asked(NamedTuple):
 
     def reads(self, text: str) -> bool:
         """Whether the call reads another text."""
-        calls: Dict[str, Callable[[], object]] = {
-            "read_text": lambda: read_text(text, self.year, self.ais), "column": lambda: read_text(text, _ANY_YEAR), "read_scan": lambda: read_scan(text, self.year, ais=self.ais),
-            "parse_elements": lambda: parse_elements(text, self.year, ais=self.ais), "read_gtin": lambda: read_gtin(text),
-            "check_digit": lambda: check_digit(text), "label": lambda: label_symbol(self.kind, text, self.year, ais=self.ais)}
         try:
-            return bool(calls[self.call]() is not None)
+            _CALLS[self.call](self, text)
+            return True
         except Refusal:
             return False
+
+
+_CALLS: Dict[str, Callable[[Asked, str], object]] = {
+    "read_text": lambda it, text: read_text(text, it.year, it.ais), "column": lambda _, text: read_text(text, _ANY_YEAR),
+    "read_scan": lambda it, text: read_scan(text, it.year, ais=it.ais), "parse_elements": lambda it, text: parse_elements(text, it.year, ais=it.ais),
+    "read_gtin": lambda _, text: read_gtin(text), "check_digit": lambda _, text: check_digit(text),
+    "label": lambda it, text: label_symbol(it.kind, text, it.year, ais=it.ais)}
+"""What reads a text for each call that was asked."""
 
 
 def advice_of(refusal: Refusal, asked: Asked) -> Advice:

@@ -3,6 +3,7 @@ from __future__ import annotations
 
 import re
 import unicodedata
+from functools import lru_cache
 from typing import Callable, List, NamedTuple, Optional, Sequence, Tuple
 
 from . import check_digit
@@ -19,14 +20,15 @@ _LETTERS = str.maketrans("OoIil|SsBZz", "00111155822")
 _MOST_LETTERS = 2
 
 
+@lru_cache(maxsize=16)
 def meant(text: str) -> str:
     """The number that a text clearly stands for, with a check digit that fits; or nothing."""
     bare = _bare(text)
     joined = _JOINTS.sub("", bare)
     is_written_as_isbn = joined != text.strip() or joined[-1:] in "Xx"
-    ways = (joined, _isbn(joined) if is_written_as_isbn else "", _of_thousands(bare), _without_decimals(joined),
-            _in_full(joined), _of_letters(joined), joined.zfill(12) if len(joined) in (10, 11) else "")
-    return next((number for number in ways if is_number(number)), "")
+    others = (_isbn(joined) if is_written_as_isbn else "", _of_thousands(bare), _without_decimals(joined), _in_full(joined), _of_letters(joined),
+              joined.zfill(12) if len(joined) in (10, 11) else "")
+    return next((number for number in (joined, *others) if number and is_number(number)), "")
 
 
 def is_number(digits: str) -> bool:
@@ -89,10 +91,11 @@ def _readings(digits: str) -> List[Tuple[str, str]]:
     return found
 
 
+@lru_cache(maxsize=16)
 def _bare(text: str) -> str:
     """A text with digits of any script as 0 to 9, and without anything around a number: quotes, signs and words."""
     signs = (sign for sign in text if unicodedata.category(sign) != "Cf")
-    plain = "".join(str(unicodedata.decimal(sign, sign)) for sign in signs).strip()
+    plain = (text if text.isascii() else "".join(str(unicodedata.decimal(sign, sign)) for sign in signs)).strip()
     before = ""
     while plain != before:
         before = plain

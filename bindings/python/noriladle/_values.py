@@ -1,4 +1,4 @@
-"""The meaning of values of Application Identifiers: numbers, units, codes and places."""
+"""The meaning of values of Application Identifiers: numbers, codes and places."""
 from __future__ import annotations
 
 from decimal import Decimal
@@ -58,7 +58,7 @@ def _scaled(digits: str, decimals: int) -> Decimal:
 
 def number(ai: str, value: str) -> Optional[Decimal]:
     """The number of a count, a measure, an amount, a price, a percentage or a temperature."""
-    if ai in ("30", "37"):
+    if ai in ("30", "37", "8005"):
         return Decimal(int(value))
     if _is_measure(ai) or ai[:3] in ("390", "392", "394", "395"):
         return _scaled(value, int(ai[3]))
@@ -67,19 +67,6 @@ def number(ai: str, value: str) -> Optional[Decimal]:
     if ai[:3] == "433":
         degrees = _scaled(value[:6], 2)
         return -degrees if value.endswith("-") else degrees
-    return None
-
-
-def unit(ai: str) -> Optional[str]:
-    """The unit of such a number, such as ``kg``."""
-    if ai[:3] == "337":
-        return "kg/m²"
-    if _is_measure(ai):
-        return rows()[ai].title.rpartition("(")[2].partition(")")[0].rstrip(".")
-    if ai[:3] == "394":
-        return "%"
-    if ai[:3] == "433":
-        return "°C" if ai[3] in "13" else "°F"
     return None
 
 

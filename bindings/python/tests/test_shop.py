@@ -102,6 +102,24 @@ def test_check_as_json(folder: Path, capsys: pytest.CaptureFixture[str]) -> None
     assert [json.loads(out[2])[key] for key in ("refused", "name", "place", "fixes")] == [5, "UnknownAi", None, []]
 
 
+@pytest.mark.parametrize("front", ["", "9501101530003\n" * 30])
+def test_numbers_of_no_trade_item_are_named(front: str, folder: Path, capsys: pytest.CaptureFixture[str]) -> None:
+    """In a list that is read at once, and in one that is read block by block."""
+    numbers = ["2012345678903", "9812345678902", "978-3-16-148410-0", "9783161484100", "9790260000438", "9770317847001", "(01)00000000000000", "9501101530003"]
+    save("a", front + "\n".join([*numbers, ""]))
+    shop = "warning: 01: 02012345678903 is a number that a shop or a company gave for itself, and identifies no trade item elsewhere"
+    coupon = "warning: 01: 09812345678902 is the number of a coupon or a receipt, and of no trade item"
+    zeros = "warning: 01: 00000000000000 is zeros alone, and the number of no trade item"
+    status, out, _ = told(["check", "a"], capsys)
+    assert (status, [line.split("\t")[3:] for line in out[-8:]]) == (0, [[shop], [coupon], ["ISBN"], ["ISBN"], ["ISMN"], ["ISSN"], [zeros], []])
+    status, out, _ = told(["check", "a", "--strict", "--refused"], capsys)
+    assert (status, [line.split("\t")[1] for line in out]) == (1, [numbers[0], numbers[1], numbers[6]])
+    status, out, _ = told(["check", "a", "--json"], capsys)
+    uses = [(json.loads(line).get("use"), json.loads(line).get("conflicts", [])) for line in out[-8:]]
+    assert [use for use, _ in uses] == [None, None, "isbn", "isbn", "ismn", "issn", None, None]
+    assert [said for _, said in uses if said] == [[f"01: {number} is no number of a trade item"] for number in ("02012345678903", "09812345678902", "0" * 14)]
+
+
 def test_conflicts_are_warnings_unless_check_is_strict(folder: Path, capsys: pytest.CaptureFixture[str], monkeypatch: pytest.MonkeyPatch) -> None:
     save("a", "9501101530003\n(01)09501101530003(37)5\n(17)261231(01)09501101530003(17)271231(401)A1\n(01)09501101530003(422)281(3912)0011(8020)1(415)9501101530003\n")
     found = ["01 excludes 37; 37 needs 02 or 8026", "17: 261231 and 271231 differ; 401: A1 is no GS1 Company Prefix",

@@ -211,7 +211,9 @@ def test_what_elements_ask_of_others(ais: list[str], told: list[str]) -> None:
     ("422", "276", []), ("422", "281", ["422: 281 is no country"]), ("423", "276281", ["423: 281 is no country"]),
     ("4307", "DE", []), ("4307", "ZZ", ["4307: ZZ is no country"]), ("7030", "999A", []), ("7030", "281A", ["7030: 281 is no country"]),
     ("3912", "9781", []), ("3912", "0011", ["3912: 001 is no currency"]), ("401", "9521A", []), ("401", "A1", ["401: A1 is no GS1 Company Prefix"]),
-    ("01", "09501101530003", []), ("99", "281", []),
+    ("01", "09501101530003", []), ("99", "281", []), ("01", "09783161484100", []), ("01", "09770317847001", []),
+    ("01", "02012345678903", ["01: 02012345678903 is no number of a trade item"]), ("02", "09812345678902", ["02: 09812345678902 is no number of a trade item"]),
+    ("8006", "000000000000000102", ["8006: 00000000000000 is no number of a trade item"]),
 ])
 def test_codes_in_no_list(ai: str, value: str, told: list[str]) -> None:
     assert [str(it) for it in conflicts([Element(ai, value)]) if it.kind != "needs"] == told

@@ -2,7 +2,7 @@
 -- the lists of tables/ais.tsv and tables/codes.tsv.
 use Rattle.std.specs.Prelude.{ℕ, Bool, false, ◌&&◌, List, [], ◌∷◌, Option, Some, None, bytes_eq, codes, take, if◌then◌else◌}
 use Rattle.element_core.specs.Elements.{is_digit}
-use Rattle.answer_core.specs.GtinKinds.{no_item}
+use Rattle.answer_core.specs.GtinUses.{no_item}
 use Rattle.answer_core.specs.Listed.{is_listed}
 use Rattle.answer_core.specs.declared.code.Coding.{Coding}
 use Rattle.answer_core.specs.declared.code.Coding.TheVariants as coding

@@ -7,7 +7,7 @@ pub mod Conflicts
 pub mod Formats
 pub mod Gaps
 pub mod GtinForms
-pub mod GtinKinds
+pub mod GtinUses
 pub mod Laws
 pub mod Lines
 pub mod Listed

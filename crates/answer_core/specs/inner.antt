@@ -4,7 +4,7 @@ pub mod Associations
 pub mod Codes
 pub mod Conflicts
 pub mod Formats
-pub mod GtinKinds
+pub mod GtinUses
 pub mod Numbers
 pub mod Places
 pub mod Units

@@ -4,7 +4,7 @@ ghost use Rattle.answer_core.specs.inner.Codes.{coded_of};
 ghost use Rattle.answer_core.specs.Codes.{are_four_digits, coded_list, coding_of, countries, country_letters, currencies, unknown_code, unknown_country, unlisted};
 
 use crate::conflict::ConflictKind;
-use crate::gtin_kind::no_item;
+use crate::gtin_use::no_item;
 use crate::listed::is_listed;
 
 /// Where a value has codes, and from which list (GS1 General Specifications, section 3).

@@ -1,13 +1,14 @@
 //! The GTIN of an answer: what it identifies, and with how many digits it is written.
 ghost use Rattle.std.specs.Prelude.{◌≡◌, length};
 ghost use Rattle.digits_core.specs.Buffers.{IsPut};
-ghost use Rattle.answer_core.specs.GtinForms.{gtin_in, is_gtin_length, short_gtin};
-ghost use Rattle.answer_core.specs.GtinKinds.{gtin_kind};
+ghost use Rattle.digits_core.specs.Gtins.{is_gtin_length};
+ghost use Rattle.answer_core.specs.GtinForms.{gtin_in, short_gtin};
+ghost use Rattle.answer_core.specs.GtinUses.{gtin_use};
 
 use crate::answer::Answer;
 use crate::buffer::put;
 use crate::gtin::span;
-use crate::gtin_kind::{GtinKind, gtin_kind};
+use crate::gtin_use::{GtinUse, gtin_use};
 use crate::text::are_zeros;
 
 /// Whether a GTIN is written with this many digits.
@@ -48,10 +49,10 @@ impl Answer {
     }
 
     /// What its GTIN identifies, if it has one.
-    pub fn gtin_kind(&self) -> Option<GtinKind>
-        ensures { result ≡ gtin_kind (gtin_in self.now) }
+    pub fn gtin_use(&self) -> Option<GtinUse>
+        ensures { result ≡ gtin_use (gtin_in self.now) }
     {
-        gtin_kind(self.gtin_bytes())
+        gtin_use(self.gtin_bytes())
     }
 
     /// Puts its GTIN as 8, 12, 13 or 14 digits at the front of `out` if there is room for them, and returns how many

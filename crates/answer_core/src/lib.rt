@@ -13,7 +13,7 @@ mod format;
 mod gap;
 mod gtin;
 mod gtin_forms;
-mod gtin_kind;
+mod gtin_use;
 mod laws;
 mod lines;
 mod listed;
@@ -33,7 +33,7 @@ pub use answer::Answer;
 pub use buffer::{put, put_both, put_refusal, put_words};
 pub use compose::Given;
 pub use conflict::{Conflict, ConflictKind};
-pub use gtin_kind::GtinKind;
+pub use gtin_use::GtinUse;
 pub use laws::{
     answers_tell_one, lines_tell, link_reads, message_lines, printed_is_read, refused_lines,
     row_lines, scan_reads, string_lines,

@@ -7,9 +7,9 @@ use Rattle.element_core.specs.declared.form.Form.{Form}
 use Rattle.element_core.specs.declared.form.Form.TheVariants as form
 use Rattle.answer_core.specs.Answers.{TellsNothing}
 use Rattle.answer_core.specs.Formats.{format_text}
-use Rattle.answer_core.specs.GtinKinds.{gtin_kind_number}
+use Rattle.answer_core.specs.GtinUses.{gtin_use_number}
 use Rattle.answer_core.specs.declared.answer.Answer.{Answer}
-use Rattle.answer_core.specs.declared.gtin_kind.GtinKind.{GtinKind}
+use Rattle.answer_core.specs.declared.gtin_use.GtinUse.{GtinUse}
 use Rattle.gs1_c.specs.Lines.{Under, terms_of}
 
 -- the answer by the terms that a number says; of a number that says none, that the words are none
@@ -17,9 +17,9 @@ abbrev pub IsAnsweredBy : ℕ → (Terms → Answer → Type 0) → Answer → T
 IsAnsweredBy number Is a = Under (terms_of number) (TellsNothing refusal.Words a) (λ terms. Is terms a)
 
 -- the number of what a GTIN identifies; 0 if there is no GTIN
-abbrev pub kind_number : Option GtinKind → ℕ
-kind_number None = 0
-kind_number (Some kind) = gtin_kind_number kind
+abbrev pub use_number : Option GtinUse → ℕ
+use_number None = 0
+use_number (Some kind) = gtin_use_number kind
 
 -- the form of a number: 0, data; 1, as people read it
 abbrev pub form_numbered : ℕ → Option Form

@@ -8,12 +8,12 @@ ghost use Rattle.answer_core.specs.Composed.{IsComposedAnswer, entry_given};
 ghost use Rattle.answer_core.specs.Conflicts.{conflicts};
 ghost use Rattle.answer_core.specs.Formats.{entries_in};
 ghost use Rattle.answer_core.specs.GtinForms.{gtin_in, short_gtin};
-ghost use Rattle.answer_core.specs.GtinKinds.{gtin_kind};
+ghost use Rattle.answer_core.specs.GtinUses.{gtin_use};
 ghost use Rattle.answer_core.specs.Reads.{IsDataAnswer, IsGtinAnswer, IsMessageAnswer, IsStringAnswer};
 ghost use Rattle.answer_core.specs.Rows.{IsDotsAnswer, IsWidthsAnswer};
 ghost use Rattle.answer_core.specs.Texts.{IsTextAnswer};
 ghost use Rattle.digits_core.specs.Buffers.{IsPut};
-ghost use Rattle.gs1_c.specs.Values.{IsAnsweredBy, form_numbered, kind_number, line_by};
+ghost use Rattle.gs1_c.specs.Values.{IsAnsweredBy, form_numbered, use_number, line_by};
 
 use crate::buffer::put_refused;
 use crate::terms::terms_of;
@@ -114,13 +114,14 @@ pub extern "C" fn gs1_c_compose(elements: &[Given], year: u16, answer: &mut Answ
     u32::from(answer.fault)
 }
 
-/// The number of the kind of an answer's GTIN, by `GtinKind`; 0 if it has no GTIN. It accepts any bytes as an answer.
+/// The number of what an answer's GTIN identifies, by `GtinUse`; 0 if it has no GTIN. It accepts any bytes as an
+/// answer.
 #[unsafe(no_mangle)]
-pub extern "C" fn gs1_c_kind_of_gtin(answer: &Answer) -> u32
-    ensures { result ≡ kind_number (gtin_kind (gtin_in answer.now)) }
+pub extern "C" fn gs1_c_use_of_gtin(answer: &Answer) -> u32
+    ensures { result ≡ use_number (gtin_use (gtin_in answer.now)) }
 {
-    match answer.gtin_kind() {
-        Some(kind) => u32::from(kind.number()),
+    match answer.gtin_use() {
+        Some(found) => u32::from(found.number()),
         None => 0,
     }
 }

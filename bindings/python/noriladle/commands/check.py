@@ -7,8 +7,9 @@ tabs between. The last line is a sum, and the status is 1 if a line is refused. 
 that are clearly meant in place of ="4012345010008", 4.012345010008E+12, EAN: 4012345010008, an ISBN of ten digits, or a
 number without its zeros in front.
 
-A warning behind a line names elements that the standard does not let stand together, and codes of no country or
-currency. --strict refuses such a line.
+A warning behind a line names elements that the standard does not let stand together, codes of no country or currency,
+and numbers of no trade item: of a shop (02, 04, 2), of a coupon (05, 98, 99), or zeros alone. --strict refuses such a
+line. Behind the number of a book, of music or of a serial stands ISBN, ISMN or ISSN.
 
   $ noriladle check supplier.csv
   $ noriladle check supplier.csv --fix -o fixed.csv
@@ -20,10 +21,10 @@ import argparse
 import itertools
 import json
 import sys
-from functools import reduce
+from functools import lru_cache, reduce
 from typing import Any, Dict, Iterable, Iterator, List, NamedTuple, Optional, Tuple
 
-from .. import Ais, Answer, Conflict, Element, Refusal, _gtins, conflicts
+from .. import Ais, Answer, Conflict, Element, GtinUse, Refusal, _gtins, check_digit, conflicts, gtin_use
 from .._columns import Table, table_of
 from .._lists import Faults, Record
 from .._plain import blocks_of, is_plain
@@ -36,6 +37,9 @@ from ._lists import add_list, columns_of, file_of, first_of, name_of
 
 
 _ZEROS = "0" * 14
+_PUBLICATIONS: Tuple[GtinUse, ...] = ("isbn", "ismn", "issn")
+_PLAIN = ("trade_item", *_PUBLICATIONS)
+"""What a number may identify without a warning."""
 
 
 def add_arguments(parser: argparse.ArgumentParser) -> None:
@@ -125,19 +129,39 @@ def _printed(checked: Checked, words: argparse.Namespace) -> _Printed:
 
 
 def _printed_plain(blocks: Iterable[Tuple[int, List[bytes]]], words: argparse.Namespace) -> Iterator[_Printed]:
-    """The same of a list with one text a line, a block at a time. Nothing can contradict a number that stands alone."""
+    """The same of a list with one text a line, a block at a time. A number that stands alone contradicts nothing, if it is that of an article."""
     for line, texts in blocks:
         rows: List[str] = []
         others: List[_Printed] = []
         for line, text, digits in zip(itertools.count(line), map(bytes.decode, texts), _gtins(texts)):
-            if digits and digits != _ZEROS:
+            use = _use_of(digits) if digits and digits != _ZEROS else None
+            if use in _PLAIN:
+                named, cell = (f', "use": "{use}"', f"\t{use.upper()}") if use in _PUBLICATIONS else ("", "")
                 rows.append(f'{{"line": {line}, "text": "{text}", "identifier": null, "gtin": "{digits}", '
-                            f'"elements": [{{"ai": "01", "value": "{digits}"}}]}}\n' if words.json else f"{line}\t{text}\t(01){digits}\n")
+                            f'"elements": [{{"ai": "01", "value": "{digits}"}}]{named}}}\n' if words.json else f"{line}\t{text}\t(01){digits}{cell}\n")
             elif text.strip():
                 others.append(_printed(_checked(line, stripped(text), False, words.year, words.ais), words))
                 rows.append(others[-1].rows)
         refused = sum(it.refused for it in others)
         yield _Printed(line, "".join(it.rows for it in others) if words.refused else "".join(rows), len(rows), refused)
+
+
+def _use_of(gtin: str) -> GtinUse:
+    """What a GTIN identifies that is not zeros alone: of the first ten digits if it was written with eight, else of five."""
+    return _use_by(gtin[:10] if gtin.startswith("00000", 1) else gtin[:5])
+
+
+@lru_cache(maxsize=None)
+def _use_by(front: str) -> GtinUse:
+    """What the GTINs identify that begin with these of their 14 digits."""
+    digits = front.ljust(13, "1")
+    return gtin_use(f"{digits}{check_digit(digits)}")
+
+
+def _publication(answer: Answer) -> str:
+    """The use of the answer's GTIN if it is that of a publication; or nothing."""
+    use = _use_of(answer.gtin) if answer.gtin else None
+    return use if use in _PUBLICATIONS else ""
 
 
 def _fix(table: Table, name: str, words: argparse.Namespace) -> int:
@@ -209,7 +233,9 @@ def _row(checked: Checked, found: str, link: Optional[str]) -> str:
     text = " ".join(checked.text.replace("\x1d", "^").split())
     if checked.answer:
         identifier = checked.answer.identifier
-        said = ("" if link is None else f"\t{link}") + (f"\t{found}: {'; '.join(map(_words, checked.found))}" if checked.found else "")
+        publication = _publication(checked.answer)
+        said = ("" if link is None else f"\t{link}") + (f"\t{publication.upper()}" if publication else "") + (
+            f"\t{found}: {'; '.join(map(_words, checked.found))}" if checked.found else "")
         return f"{checked.line}\t{text}\t{f'{identifier} ' if identifier else ''}{checked.answer.text}{said}"
     article = f"\t{checked.article}" if checked.article else ""
     return f"{checked.line}\t{text}\t{checked.refusal}\t{checked.remedy}{article}"
@@ -222,7 +248,7 @@ def _words(it: Conflict) -> str:
         return told("differs", ai, it.other.value, it.element.value) if it.kind == "differs" else told("excludes", ai, it.other.ai)
     if it.kind == "needs":
         return told("needs", ai, reduce(lambda ais, other: told("either", ais, other), it.text.split(",")))
-    return told(f"no{it.kind.title()}", ai, it.text)
+    return told(gtin_use(it.text) if it.kind == "trade_item" else f"no{it.kind.title()}", ai, it.text)
 
 
 def _named(checked: Checked) -> str:
@@ -234,7 +260,9 @@ def _named(checked: Checked) -> str:
 def _data(checked: Checked, link: Optional[str]) -> Dict[str, Any]:
     data: Dict[str, Any] = {"line": checked.line, "text": checked.text, **({"article": checked.article} if checked.article else {})}
     if checked.answer:
-        return {**data, **data_of(checked.answer), **({"link": link} if link else {}), **({"conflicts": [str(it) for it in checked.found]} if checked.found else {})}
+        publication = _publication(checked.answer)
+        return {**data, **data_of(checked.answer), **({"use": publication} if publication else {}), **({"link": link} if link else {}),
+                **({"conflicts": [str(it) for it in checked.found]} if checked.found else {})}
     refusal = checked.refusal
     assert refusal, "what is not read is refused"
     return {**data, "refused": refusal.number, "name": refusal.name, "place": refusal.place, "remedy": checked.remedy, "fixes": list(checked.fixes)}

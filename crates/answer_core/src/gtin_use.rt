@@ -1,15 +1,15 @@
 //! What a GTIN identifies, by its first digits. tables/ais makes the arrays of tables/prefixes.tsv.
 ghost use Rattle.std.specs.Prelude.{◌≡◌, map};
-ghost use Rattle.answer_core.specs.GtinKinds.{gtin_kind, gtin_kind_number, is_no_item, kind_in, no_item, prefixes, short_prefixes};
-ghost use Rattle.answer_core.specs.inner.GtinKinds.{prefixes_of};
+ghost use Rattle.answer_core.specs.GtinUses.{gtin_use, gtin_use_number, is_no_item, use_in, no_item, prefixes, short_prefixes};
+ghost use Rattle.answer_core.specs.inner.GtinUses.{prefixes_of};
 
 use crate::code::first;
 use crate::listed::is_listed;
 use crate::text::are_zeros;
 
-/// What a GTIN identifies. Its number, from 1 in this order, is that of `enum gs1_gtin_kind` in gs1.h.
+/// What a GTIN identifies. Its number, from 1 in this order, is that of `enum gs1_gtin_use` in gs1.h.
 #[derive(Clone, Copy, Debug, PartialEq, Eq)]
-pub enum GtinKind {
+pub enum GtinUse {
     /// A trade item.
     TradeItem,
     /// What a company or the shops of a region number themselves: it is a restricted circulation number.
@@ -26,19 +26,19 @@ pub enum GtinKind {
     Zeros,
 }
 
-impl GtinKind {
+impl GtinUse {
     /// Its number, 1 to 7.
     pub fn number(self) -> u8
-        ensures { result ≡ gtin_kind_number self }
+        ensures { result ≡ gtin_use_number self }
     {
         self as u8 + 1
     }
 }
 
-/// The first digits of numbers of one kind.
+/// The first digits of numbers of one use.
 #[derive(Clone, Copy)]
 struct NumberPrefixes {
-    kind: GtinKind,
+    gtin_use: GtinUse,
     /// A list of four characters each, in which `n` stands for any digit.
     words: &'static [u8],
 }
@@ -46,17 +46,17 @@ struct NumberPrefixes {
 /// Those of a GTIN of 13 digits.
 #[rattlefmt::skip]
 const PREFIXES: [NumberPrefixes; 5] = [
-    NumberPrefixes { kind: GtinKind::InStore, words: b"02nn,04nn,2nnn" },
-    NumberPrefixes { kind: GtinKind::Coupon, words: b"05nn,980n,981n,982n,983n,984n,99nn" },
-    NumberPrefixes { kind: GtinKind::Issn, words: b"977n" },
-    NumberPrefixes { kind: GtinKind::Ismn, words: b"9790" },
-    NumberPrefixes { kind: GtinKind::Isbn, words: b"978n,979n" },
+    NumberPrefixes { gtin_use: GtinUse::InStore, words: b"02nn,04nn,2nnn" },
+    NumberPrefixes { gtin_use: GtinUse::Coupon, words: b"05nn,980n,981n,982n,983n,984n,99nn" },
+    NumberPrefixes { gtin_use: GtinUse::Issn, words: b"977n" },
+    NumberPrefixes { gtin_use: GtinUse::Ismn, words: b"9790" },
+    NumberPrefixes { gtin_use: GtinUse::Isbn, words: b"978n,979n" },
 ];
 
 /// Those of a GTIN of 8 digits.
 #[rattlefmt::skip]
 const SHORT_PREFIXES: [NumberPrefixes; 1] = [
-    NumberPrefixes { kind: GtinKind::InStore, words: b"0nnn,2nnn" },
+    NumberPrefixes { gtin_use: GtinUse::InStore, words: b"0nnn,2nnn" },
 ];
 
 fn prefixes() -> &'static [NumberPrefixes]
@@ -71,42 +71,42 @@ fn short_prefixes() -> &'static [NumberPrefixes]
     &SHORT_PREFIXES
 }
 
-/// The kind of the numbers that begin with these four digits.
-fn kind_in(list: &[NumberPrefixes], digits: &[u8]) -> GtinKind
-    ensures { result ≡ kind_in digits.now (map prefixes_of list.now) }
+/// The use of the numbers that begin with these four digits.
+fn use_in(list: &[NumberPrefixes], digits: &[u8]) -> GtinUse
+    ensures { result ≡ use_in digits.now (map prefixes_of list.now) }
 {
     let mut rest = list;
     while let [prefixes, more @ ..] = rest {
         if is_listed(digits, prefixes.words) {
-            return prefixes.kind;
+            return prefixes.gtin_use;
         }
         rest = more;
     }
-    GtinKind::TradeItem
+    GtinUse::TradeItem
 }
 
 /// What a GTIN of 14 digits identifies, if there are so many.
-pub(crate) fn gtin_kind(digits: &[u8]) -> Option<GtinKind>
-    ensures { result ≡ gtin_kind digits.now }
+pub(crate) fn gtin_use(digits: &[u8]) -> Option<GtinUse>
+    ensures { result ≡ gtin_use digits.now }
 {
     if digits.len() != 14 {
         return None;
     }
     if are_zeros(digits) {
-        return Some(GtinKind::Zeros);
+        return Some(GtinUse::Zeros);
     }
     if are_zeros(&digits[1..6]) {
-        return Some(kind_in(short_prefixes(), &digits[6..10]));
+        return Some(use_in(short_prefixes(), &digits[6..10]));
     }
-    Some(kind_in(prefixes(), &digits[1..5]))
+    Some(use_in(prefixes(), &digits[1..5]))
 }
 
-/// Whether numbers of a kind identify no trade item. Those of publications do.
-fn is_no_item(kind: Option<GtinKind>) -> bool
-    ensures { result ≡ is_no_item kind }
+/// Whether numbers of a use identify no trade item. Those of publications do.
+fn is_no_item(found: Option<GtinUse>) -> bool
+    ensures { result ≡ is_no_item found }
 {
-    match kind {
-        Some(GtinKind::InStore | GtinKind::Coupon | GtinKind::Zeros) => true,
+    match found {
+        Some(GtinUse::InStore | GtinUse::Coupon | GtinUse::Zeros) => true,
         _ => false,
     }
 }
@@ -116,7 +116,7 @@ pub(crate) fn no_item(value: &[u8]) -> &[u8]
     ensures { result.now ≡ no_item value.now }
 {
     let gtin = first(14, value);
-    if is_no_item(gtin_kind(gtin)) {
+    if is_no_item(gtin_use(gtin)) {
         gtin
     } else {
         b""

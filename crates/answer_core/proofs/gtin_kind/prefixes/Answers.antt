@@ -1,7 +1,0 @@
-use Rattle.std.proofs.Common.{refl}
-use Rattle.answer_core.specs.GtinKinds.{prefixes}
-use Rattle.answer_core.proofs.gtin_kind.prefixes.Goals as goal
-
-pub returns : goal.returns
-unfolding prefixes
-returns c = refl
