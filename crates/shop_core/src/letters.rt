@@ -454,6 +454,11 @@ impl<'a> Setting<'a> {
 }
 
 impl<'a> Block<'a> {
+    /// The height of its first line above its baseline.
+    pub(crate) fn upper(&self) -> f64 {
+        self.setting.font.upper(self.size)
+    }
+
     /// The height of its lines.
     pub(crate) fn height(&self) -> f64 {
         nearest_usize_to_f64(self.lines.len()) * self.setting.font.line(self.size)

@@ -25,7 +25,8 @@ impl<'a> Sheet<'a> {
         self.room() * share / self.plan.fonts.bold.width(text, 0, text.len())
     }
 
-    /// Puts the price at the lower end of a band, as large as there is room, with the old price to the left of it.
+    /// Puts the price at the lower end of a band, as large as there is room, with the old price on its baseline, to the
+    /// left of it.
     pub(crate) fn put_large_price(
         &self,
         parts: &mut Parts,
@@ -40,7 +41,8 @@ impl<'a> Sheet<'a> {
             return Err(LabelFault::NoPlace);
         }
         let column = self.across(Align::Right);
-        whole(Field::Price).put(parts, &price, column, bottom - price.height())?;
+        let upper = bottom - price.height();
+        whole(Field::Price).put(parts, &price, column, upper)?;
         let width = self.room() - price.width() - self.dots();
         let old = self.old_price(width, (0.42 * price.size).max(1.7 * self.dots()));
         let beside = Column {
@@ -48,7 +50,8 @@ impl<'a> Sheet<'a> {
             width,
             align: Align::Left,
         };
-        whole(Field::OldPrice).put(parts, &old, beside, bottom - old.height())?;
+        let lower = price.upper() - old.upper();
+        whole(Field::OldPrice).put(parts, &old, beside, upper + lower)?;
         Ok(())
     }
 
