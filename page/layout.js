@@ -47,6 +47,13 @@ class Layout {
     this.lendLook(look === "price", dots);
   }
 
+  // Writes an empty label.
+  lendCell({ aside, above, width, height, dots }) {
+    const { view, at } = this;
+    [aside, above, dots].forEach((length, i) => view.setFloat64(at.look + 8 * i, length, true));
+    [width, height].forEach((number, i) => view.setUint16(at.look + 40 + 2 * i, number, true));
+  }
+
   // Makes room in the memory of the module for such numbers of bytes.
   take(sizes) {
     const module = Layout.module ??= gs1.another();
@@ -70,9 +77,10 @@ class Layout {
   }
 
   lendLook(isPriceFirst, dots) {
-    const { cell: { aside, above, width, height, dots: inMm }, view, at } = this;
-    [aside, above, inMm, dots / inMm, 0].forEach((length, i) => view.setFloat64(at.look + 8 * i, length, true));
-    [width, height, isPriceFirst, 0].forEach((number, i) => view.setUint16(at.look + 40 + 2 * i, number, true));
+    const { cell, view, at } = this;
+    this.lendCell(cell);
+    [dots / cell.dots, 0].forEach((length, i) => view.setFloat64(at.look + 24 + 8 * i, length, true));
+    view.setUint32(at.look + 44, Number(isPriceFirst), true);
     for (const [i, name] of ["regular", "bold"].entries()) {
       const { widths, other, up, down, digits } = this.fonts[i], place = at.look + 48 + SIZES.font * i;
       new Uint16Array(this.memory, at[name], widths.length).set(widths);
@@ -98,11 +106,37 @@ class Layout {
 
   // Takes an article's measure for the plan, or returns why it has no label.
   measure(article) {
-    const { at } = this, place = at.measures + SIZES.measure * this.count;
     this.lend(article);
-    const number = this.calls.gs1_c_measure(BigInt(at.look), BigInt(at.article), core.terms, BigInt(place));
+    const { number } = this.measured(this.cell);
     if (number === 0) this.count++;
     return this.faultOf(number, article);
+  }
+
+  // Measures the article that is lent on a label: the number of its error, or how wide its symbol with its quiet zones
+  // is. The measure is put behind those of others.
+  measured(cell) {
+    const { at, view, count } = this, place = at.measures + SIZES.measure * count;
+    this.lendCell(cell);
+    const number = this.calls.gs1_c_measure(BigInt(at.look), BigInt(at.article), core.terms, BigInt(place));
+    this.lendCell(this.cell);
+    return { number, wide: number ? 0 : view.getUint32(place, true) / cell.dots };
+  }
+
+  // What to do if no module has room.
+  tooWide(kind) {
+    const { cell, cell: { dots } } = this, finest = Math.max(...Object.keys(DOTS_IN_MM).map(Number)),
+      fine = Object.fromEntries(Object.entries(cell).map(([name, it]) => [name, it * DOTS_IN_MM[finest] / dots]));
+    let wide = Math.ceil(cell.width / dots), needed = 0;
+    while (wide < 1000 && !(needed = this.measured({ ...cell, width: Math.ceil(wide * dots) }).wide)) wide++;
+    const stocks = Object.entries(STOCKS).map(([name, text]) => ({ name, ...stockOf(text) }))
+      .filter((stock) => stock.width >= wide && this.measured(cellOf(stock, dots)).wide)
+      .sort((a, b) => a.width - b.width || (a.name < b.name ? -1 : 1));
+    const named = stocks.length ? ` (${stocks.slice(0, 3).map(({ name }) => name).join(", ")})` : "";
+    /** @type {Told[]} */
+    const ways = [{ key: "wider", values: [wide, named] }];
+    if (this.measured(fine).wide) ways.push({ key: "finer", values: [finest] });
+    if (kind === "gs1128") ways.push({ key: "fewer" });
+    return { key: "tooWide", values: [length1(cell.width / dots), length1(needed), ways] };
   }
 
   // Notes what the labels of all articles have in common, so that their sheets look even.
@@ -160,15 +194,15 @@ class Layout {
   // What is wrong, by the number of the error; nothing for 0.
   faultOf(number, article) {
     if (!number) return null;
-    const symbol = symbolOf(article);
-    if (symbol.refused) return { ...remedyOf(article.text, symbol.refused), refused: symbol.refused };
-    if (number === 27) return tooWide(article.kind, symbol, this.cell);
+    const { refused } = symbolOf(article);
+    if (refused) return { ...remedyOf(article.text, refused), refused };
+    if (number === 27) return this.tooWide(article.kind);
     if (number === 52) return { key: "noModule", values: [0, 2].map((i) => length3(modulesOf(article.kind)[i])) };
     return { key: SAID_OF_LABELS[number] ?? "misdrawn", values: this.hasStrip(article) ? [{ key: "largeBars" }] : [] };
   }
 }
 
-// ---- what to do if no module has room
+// ---- lengths
 
 // Lengths in mm, as people read them.
 const length1 = (value) => ({ number: value, places: 1 }), length3 = (value) => ({ number: value, places: 3 });
@@ -183,28 +217,6 @@ const modulesOf = (kind) => SHOP.modules[isOfCase(kind) ? "cases" : "retail"];
 function modulesAllowed([least, , most], dots) {
   const first = Math.ceil(least * dots - 1e-6);
   return Array.from({ length: Math.max(0, Math.floor(most * dots + 1e-6) - first + 1) }, (_, i) => first + i);
-}
-
-// The width that a label needs. Quiet zones may lie in the white at its sides, unless digits stand in them.
-function neededFor(kind, { quiets, modules }, module, aside) {
-  return module * modules + 2 * Math.max(0, aside - (isOfCase(kind) ? module * Math.min(...quiets) : 0));
-}
-
-function tooWide(kind, symbol, cell) {
-  const finest = Math.max(...Object.keys(DOTS_IN_MM).map(Number)), aside = cell.aside / cell.dots;
-  const leastOf = (dots) => modulesAllowed(modulesOf(kind), dots)[0] / dots;
-  const [module, least] = [cell.dots, DOTS_IN_MM[finest]].map(leastOf);
-  const wide = Math.ceil(neededFor(kind, symbol, module, aside)),
-    stocks = Object.entries(STOCKS).map(([name, text]) => ({ name, ...stockOf(text) }))
-      .filter((stock) => Math.max(wide, neededFor(kind, symbol, module, stock.aside)) <= stock.width)
-      .sort((a, b) => a.width - b.width || (a.name < b.name ? -1 : 1));
-  const named = stocks.length ? ` (${stocks.slice(0, 3).map(({ name }) => name).join(", ")})` : "";
-  /** @type {Told[]} */
-  const ways = [{ key: "wider", values: [wide, named] }];
-  if (neededFor(kind, symbol, least, aside) <= cell.width / cell.dots) ways.push({ key: "finer", values: [finest] });
-  if (kind === "gs1128") ways.push({ key: "fewer" });
-  const lengths = [length1(cell.width / cell.dots), length3(module), length1(module * symbol.modules)];
-  return { key: "tooWide", values: [...lengths, ways] };
 }
 
 // ---- pieces

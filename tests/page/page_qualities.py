@@ -114,7 +114,7 @@ def hard_lists(page: Browser) -> None:
     make(page, "ean;copies\n" + "96385074;1000\n" * 11, priced=False)
     same("more labels than the page makes", (told(page)[0], sentence("manyLabels", "10,000") in told(page)[1]), ("10,000 labels on 417 sheets · 1 line left out", True))
     make(page, "gs1;name\n(01)09501101530003(17)261231(10)LOT7;Kiste\n", priced=False)
-    same("a label that is too narrow", "The label is 69.9 mm wide, and with modules of 0.339 mm the barcode needs 89.4 mm with its quiet zones: use labels of 92 mm or more (L7162, L7163, L7165); or print fewer elements." in told(page)[1], True)
+    same("a label that is too narrow", "The label is 69.9 mm wide, and the barcode needs 89.4 mm with its quiet zones: use labels of 92 mm or more (L7162, L7163, L7165); or print fewer elements." in told(page)[1], True)
     make(page, f"a;b;c\n{articles(1)[0][0]};{articles(2)[1][0]};x\n", priced=False)
     page.value("at('column-gtin').value = 1, at('column-gtin').dispatchEvent(new Event('change')), document.made")
     same("another column of numbers", page.value("shop.made.labels[0].item.text"), articles(2)[1][0].zfill(14))

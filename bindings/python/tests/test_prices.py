@@ -209,7 +209,7 @@ def test_a_language_has_its_numbers() -> None:
         assert printed("290", others=[], heading="Preis in Cent") == "2,90" and _shop.said("noLabels").startswith("die Liste")
         with pytest.raises(Faults, match="mehr als 20[.]000 Zeilen"):
             read_list(("EAN;Preis\n" + f"{OATS};2,90\n" * 20_000).encode(), 2026)
-        with pytest.raises(ListFaults, match="50,0 mm breit, und bei Modulen von 0,375 mm .*; oder weniger"):
+        with pytest.raises(ListFaults, match="50,0 mm breit, und der Strichcode braucht mit Ruhezonen .* mm: .*; oder weniger"):
             make(read_list(b"gs1;name\n(01)09501101530003(10)A;Kiste\n", 2026, {"price": ""}), stock_of("50x20"), 2026, look=Look(203))
         _shop.speak("xx")
         assert _shop.said("noLabels") == "the list has no labels to print"

@@ -67,8 +67,7 @@ class Look:
         return DOTS_IN_MM[self.resolution]
 
 
-@dataclass(frozen=True)
-class Cell:
+class Cell(NamedTuple):
     """An empty label, and how much stays white at its sides, above and below."""
 
     width: int

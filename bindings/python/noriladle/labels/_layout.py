@@ -5,17 +5,20 @@ import ctypes
 import math
 import struct
 from array import array
+from functools import cached_property
+from itertools import islice
 from string import digits
 from typing import List, NamedTuple, Sequence, Set, Tuple
 
 from .. import Kind, LabelSymbol, Refusal, _library, _terms, label_symbol
 from .._shop import count_text, localized, said, shared, told, translated
 from ._articles import Article
-from ._drawing import BOX, DOTS_IN_MM, RESOLUTIONS, Cell, Drawing, Look, Text, Warned
+from ._drawing import BOX, DOTS_IN_MM, RESOLUTIONS, Cell, Drawing, Look, Text, Warned, cell_of
 from ._fonts import Font, Fonts
 from ._stocks import KNOWN, stock_of
 
 _LOGISTIC_MM = 0.495
+_MOST_MM = 1_000
 _STRIP_MM = 6.0
 """The height that bars below a large price need; the standard asks for more."""
 _UP, _DOWN, _OVERSHOOT = 0.9, 0.22, 0.02
@@ -67,7 +70,7 @@ class Layout:
     """Lays out the labels of a list."""
 
     def __init__(self, cell: Cell, fonts: Fonts, look: Look, year: int, articles: Sequence[Article]) -> None:
-        self._cell, self._fonts, self._bearers, self._is_price_first = cell, fonts, look.bearers, look.is_price_first
+        self._cell, self._fonts, self._own = cell, fonts, look
         self._year, self._terms = year, _terms(year, "all")
         letters = set("… ").union(*(text for article in articles for text in (*_texts(article), article.answer.text)))
         for font in fonts:
@@ -90,7 +93,7 @@ class Layout:
         if lacking:
             raise ValueError(told("notSet", ", ".join(map(repr, lacking[:5]))))
         number = article.text.encode("ascii")
-        lent = _Article(_Lent(number, len(number)), kind=article.kind.value, bearers=self._bearers)
+        lent = _Article(_Lent(number, len(number)), kind=article.kind.value, bearers=self._own.bearers)
         for place, text in enumerate(texts):
             lent.texts[place] = _Lent(text.encode("utf-32-le"), len(text))
         measure = _Measure()
@@ -150,18 +153,49 @@ class Layout:
         if not fault:
             return
         if fault == _TOO_WIDE:
-            raise ValueError(_too_wide(article.kind, _symbol(article, self._year), self._cell))
+            raise ValueError(self._too_wide(article))
         if fault == _NO_MODULE:
-            least, _, most = _modules(article.kind)
+            least, _, most = shared("modules")["cases" if article.kind in (Kind.GS1128, Kind.ITF14) else "retail"]
             raise ValueError(said("noModule", localized(f"{least}"), localized(f"{most}")))
         if fault <= _NO_SYMBOL:
             _symbol(article, self._year)
         other = f"{said('largeBars')} (--look bars)" if self._has_strip(article) else ""
         raise ValueError(said(_SAID.get(fault, "misdrawn"), other))
 
+    def _too_wide(self, article: Article) -> str:
+        """The error that no module has room, with what to do."""
+        width, height, aside, above, dots = self._cell
+        finest = max(RESOLUTIONS)
+        fine = DOTS_IN_MM[finest] / dots
+        wider = ((it, self._wide_on(article, Cell(math.ceil(it * dots), height, aside, above, dots))) for it in range(math.ceil(width / dots), _MOST_MM))
+        least, needed = next((it for it in wider if it[1]), (0, 0))
+        names = islice((name for wide, name, other in self._stocks if wide >= least and self._wide_on(article, other)), 3)
+        named = ", ".join(names)
+        ways = [said("wider", count_text(least), f" ({named})" if named else "")]
+        if self._wide_on(article, Cell(int(width * fine), int(height * fine), aside * fine, above * fine, dots * fine)):
+            ways.append(f"{said('finer', finest)} (--dpi {finest})")
+        if self._wide_on(article, Cell(height, width, above, aside, dots)):
+            ways.append(told("turn"))
+        if article.kind is Kind.GS1128:
+            ways.append(said("fewer"))
+        lengths = localized(f"{width / dots:.1f}"), localized(f"{needed / dots:.1f}")
+        return said("tooWide", *lengths, f";{translated(' or ')}".join(ways))
+
+    @cached_property
+    def _stocks(self) -> Sequence[Tuple[float, str, Cell]]:
+        """All known stock by its width."""
+        return sorted((it.width, name, cell_of(it, self._own)) for name, it in zip(KNOWN, map(stock_of, KNOWN)))
+
+    def _wide_on(self, article: Article, cell: Cell) -> int:
+        """How many dots the barcode of an article with its quiet zones is wide on a label; 0 if it has no room there."""
+        look, measure, number = _Look.from_buffer_copy(self._look), _Measure(), article.text.encode("ascii")
+        look.width, look.height, look.aside, look.above, look.dots = cell
+        fault = _library.gs1_measure(_at(look), _at(_Article(_Lent(number, len(number)), kind=article.kind.value)), self._terms, _at(measure))
+        return 0 if fault else int(measure.wide)
+
     def _has_strip(self, article: Article) -> bool:
         """Whether the bars are a strip below a large price."""
-        return self._is_price_first and bool(article.price)
+        return self._own.is_price_first and bool(article.price)
 
 
 def _at(lent: ctypes.Structure) -> object:
@@ -204,43 +238,3 @@ def _symbol(article: Article, year: int) -> LabelSymbol:
 
 
 # ---- what to do if no module has room
-
-
-def _modules(kind: Kind) -> Tuple[float, float, float]:
-    """The least, the wanted and the largest width of a module, in mm."""
-    least, wanted, most = shared("modules")["cases" if _is_case(kind) else "retail"]
-    return least, wanted, most
-
-
-def _is_case(kind: Kind) -> bool:
-    return kind in (Kind.GS1128, Kind.ITF14)
-
-
-def _least(kind: Kind, dots: float) -> int:
-    """The dots of the narrowest module."""
-    return math.ceil(_modules(kind)[0] * dots - 1e-6)
-
-
-def _needed(kind: Kind, symbol: LabelSymbol, module: float, aside: float) -> float:
-    """The width that a label needs. Quiet zones may lie in the white at its sides, unless digits stand in them."""
-    quiets = symbol.quiet_left, symbol.quiet_right
-    return module * (sum(quiets) + sum(symbol.widths)) + 2 * max(0.0, aside - module * _is_case(kind) * min(quiets))
-
-
-def _too_wide(kind: Kind, symbol: LabelSymbol, cell: Cell) -> str:
-    """The error that no module has room, with what to do."""
-    finest = max(RESOLUTIONS)
-    module, least = (_least(kind, dots) / dots for dots in (cell.dots, DOTS_IN_MM[finest]))
-    wide, high, aside, above = (length / cell.dots for length in (cell.width, cell.height, cell.aside, cell.above))
-    least_wide = math.ceil(_needed(kind, symbol, module, aside))
-    stocks = [(it.width, name) for name, it in zip(KNOWN, map(stock_of, KNOWN)) if max(least_wide, _needed(kind, symbol, module, it.padding[0])) <= it.width]
-    named = f" ({', '.join(name for _, name in sorted(stocks)[:3])})" if stocks else ""
-    ways = [said("wider", count_text(least_wide), named)]
-    if _needed(kind, symbol, least, aside) <= wide:
-        ways.append(f"{said('finer', finest)} (--dpi {finest})")
-    if _needed(kind, symbol, module, above) <= high:
-        ways.append(told("turn"))
-    if kind is Kind.GS1128:
-        ways.append(said("fewer"))
-    lengths = f"{wide:.1f}", f"{module:.3f}", f"{_needed(kind, symbol, module, 0.0):.1f}"
-    return said("tooWide", *map(localized, lengths), f";{translated(' or ')}".join(ways))
