@@ -37,7 +37,7 @@ def before_others() -> Iterator[float]:
 
 def texts() -> dict[str, Any]:
     """The page's texts by language, as the repository has them."""
-    folder = os.path.join(os.path.dirname(os.path.dirname(os.path.dirname(os.path.abspath(__file__)))), "tables", "tables", "shop")
+    folder = os.path.join(os.path.dirname(os.path.dirname(os.path.dirname(os.path.abspath(__file__)))), "tables", "shop")
     found = {}
     for name in sorted(os.listdir(folder)):
         if len(name) == 7:
