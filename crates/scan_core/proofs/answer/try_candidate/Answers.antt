@@ -1,4 +1,4 @@
-use Rattle.std.proofs.Common.{◌∙◌, ap, rules, subst, sum, sym}
+use Rattle.std.proofs.Common.{◌∙◌, ap, rules, sum, sym}
 use Rattle.scan_core.specs.Row.{inner}
 use Rattle.scan_core.specs.Showing.{IsQuiet, IsSymbol, Rounds, Way, along, kind_of}
 use Rattle.scan_core.proofs.CandidateFacts.{candidate_dots, least_modules, most_modules}
