@@ -1,5 +1,5 @@
 -- What was encoded is read again.
-use Rattle.std.proofs.Common.{◌≡◌, ◌==◌, ◌<◌, ◌+◌, ◌*◌, ◌/◌, ◌%◌, ◌∷◌, ◌∙◌, [], Bool, List, ap, arith, false, true, refl, sym, ℕ, if◌then◌else◌}
+use Rattle.std.proofs.Common.{◌≡◌, ◌==◌, ◌<◌, ◌/◌, ◌%◌, ◌∷◌, ◌∙◌, [], Bool, List, ap, arith, false, true, refl, sym, ℕ}
 use Rattle.std.proofs.lemmas.Bool.{cond_both, ne_eqb, true≢false}
 use Rattle.std.proofs.lemmas.Grind.{common_steps}
 use Rattle.std.proofs.lemmas.Nat.{div-add-mod'}
