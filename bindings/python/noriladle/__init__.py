@@ -92,8 +92,8 @@ _RawConflicts = ctypes.c_char * (_MOST_CONFLICTS * _CONFLICT.size)
 _BATCH = 1024
 """How many lines are answered by one call."""
 _RawAnswers = ctypes.c_char * (_BATCH * ctypes.sizeof(_RawAnswer))
-_GTIN = struct.Struct("<H12x14s1040x")
-"""``struct gs1_answer`` of a GTIN: fault, and its digits behind the AI."""
+_HEADS = struct.Struct(f"{_HEAD.format}{_MOST_ELEMENTS * _PLACE.size}x")
+"""The same of many answers, which passes over their elements."""
 assert (ctypes.sizeof(_RawAnswer), _CONFLICT.size) == (1068, 48), "the sizes that gs1.h promises"
 
 _library = ctypes.CDLL(os.path.join(os.path.dirname(__file__), "libgs1.so"))
@@ -519,8 +519,8 @@ def _gtins(texts: Sequence[bytes]) -> List[Optional[str]]:
     for at in range(0, len(texts), _BATCH):
         lines = b"\n".join(texts[at:at + _BATCH]) + b"\n"
         count = _library.gs1_read_gtins(lines, len(lines), _ANY_YEAR, raw, _BATCH, None)
-        told += islice(_GTIN.iter_unpack(raw), count)
-    return [None if fault or len(text) == 8 and text[0] == 48 else digits.decode("ascii") for (fault, digits), text in zip(told, texts)]
+        told += islice(_HEADS.iter_unpack(raw), count)
+    return [None if fault or len(text) == 8 and text[0] == 48 else said[2:16].decode("ascii") for (fault, _, _, _, _, _, _, said), text in zip(told, texts)]
 
 
 def _said_in(line: bytes, terms: int) -> Union[Answer, Refusal]:
