@@ -555,9 +555,13 @@ def _elements_at(text: str, places: bytes) -> Tuple[Element, ...]:
 
 def _pairs(answer: Answer) -> List[Tuple[str, str]]:
     """The Application Identifier and the value of each element, without making the elements."""
-    text, places = answer.__dict__.get("_told", ("", b""))
-    return ([(text[it[0]:it[1]], text[it[1]:it[2]]) for it in _PLACE.iter_unpack(places)] if places else
-            [(element.ai, element.value) for element in answer.elements])
+    pairs: Optional[List[Tuple[str, str]]] = answer.__dict__.get("_pairs")
+    if pairs is None:
+        text, places = answer.__dict__.get("_told", ("", b""))
+        pairs = ([(text[it[0]:it[1]], text[it[1]:it[2]]) for it in _PLACE.iter_unpack(places)] if places else
+                 [(element.ai, element.value) for element in answer.elements])
+        answer.__dict__["_pairs"] = pairs
+    return pairs
 
 
 def _with_before(refusal: Refusal, text: bytes, terms: int) -> Refusal:

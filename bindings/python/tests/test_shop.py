@@ -53,7 +53,7 @@ ALONE = "10 needs 01 or 02 or 03 or 8006 or 8026"
 def test_check(folder: Path, capsys: pytest.CaptureFixture[str]) -> None:
     save("a", "978-3-16-148410-0\n\n96385075\n(10)A\n]C110A\n^10A^17261231\n(20)A)\n")
     assert told(["check", "a"], capsys) == (1, [
-        "1\t978-3-16-148410-0\t(01)09783161484100",
+        "1\t978-3-16-148410-0\t(01)09783161484100\tISBN",
         "3\t96385075\trefused 3 CheckDigit\ta digit is wrong; if it is the last one, 96385074 is right",
         f"4\t(10)A\t(10)A\twarning: {ALONE}", f"5\t]C110A\t]C1 (10)A\twarning: {ALONE}",
         f"6\t^10A^17261231\t(10)A(17)261231\twarning: {ALONE}; 17 needs 01 or 02 or 03 or 255 or 8006 or 8026",
