@@ -181,7 +181,7 @@ def test_warnings() -> None:
     data = b"gtin,name\n9501101530003,x\n96385074,y\n9501101530010,z\n"
     told = "the bars are {} mm high; the standard asks for {} mm, and lower bars are harder to hit: use higher labels"
     assert [(it.lines, it.said) for it in made(data, "L7651", look=Look(600)).warnings] == [
-        ((2, 4, 3), told.format("12.0", "20.5"))]
+        ((2, 4, 3), told.format("11.9", "20.5"))]
     assert not made(data, "L7163", look=Look(bars_mm=30)).warnings
     (_, said), = made(f"gtin,name\n9501101530003,{'W' * 10_000}\n".encode(), "2x4:99.1x67.7").warnings
     assert said.startswith("a text is cut, since the label has no room for it: WWWW") and len(said) < 300

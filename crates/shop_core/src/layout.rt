@@ -18,6 +18,9 @@ use std::num::{nearest_usize_to_f64, saturating_f64_to_u16};
 
 pub(crate) const LEAST_PRICE_MM: f64 = 2.6;
 
+/// Lower labels have no room for a large price above their bars.
+const LOW_MM: f64 = 22.0;
+
 /// A label while it is laid out.
 #[derive(Drop)]
 pub(crate) struct Sheet<'a> {
@@ -321,6 +324,12 @@ impl<'a> Sheet<'a> {
         Ok(())
     }
 
+    /// Whether the price is above the bars, and larger. On a low label it can be larger beside them.
+    fn is_price_first(&self) -> bool {
+        let is_beside = self.high_mm() < LOW_MM && self.item.wide() <= self.common().column;
+        self.plan.look.is_price_first && self.has(Field::Price) && !is_beside
+    }
+
     /// The price beside the bars if there is room, otherwise above them.
     pub(crate) fn bars_first(&self, parts: &mut Parts) -> Result<Rows, LabelFault> {
         let look = &self.plan.look;
@@ -348,8 +357,7 @@ pub(crate) fn sketch(item: &Item, plan: &Plan) -> Result<Drawing, LabelFault>
     let smalls = smalls_of(item)?;
     let sheet = Sheet { item, plan, smalls };
     let mut others = ArrayVec::new();
-    let is_price_first = plan.look.is_price_first && sheet.has(Field::Price);
-    let rows = if is_price_first {
+    let rows = if sheet.is_price_first() {
         sheet.price_first(&mut others)?
     } else {
         sheet.bars_first(&mut others)?

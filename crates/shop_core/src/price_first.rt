@@ -86,8 +86,8 @@ impl<'a> Sheet<'a> {
         let largest = between(2.6, 0.13 * self.high_mm(), 22.0) * self.dots();
         let sizes = Sizes {
             largest,
-            smallest: 0.55 * largest,
-            lines: 2,
+            smallest: (0.55 * largest).min(4.0 * self.dots()),
+            lines: if self.high_mm() < 60.0 { 2 } else { 3 },
         };
         let price = self.widest_price().min(1.2 * largest);
         let name = self.bold(Field::Name);

@@ -145,9 +145,10 @@ fn a_long_name_is_cut_on_low_labels_and_the_price_is_whole(rt: HostRuntime) {
         price: PRICE,
         ..NONE
     };
-    // 19, 20 and 25 mm.
-    for height in [152, 160, 200] {
+    // The price is beside the bars, above them on a narrower label, and above them on a higher one.
+    for (width, height) in [(508, 152), (430, 152), (508, 200)] {
         let look = Look {
+            width,
             height,
             aside: 9.6,
             above: 9.6,
