@@ -17,4 +17,4 @@ pub use lane_gate::LaneGate;
 pub use meeting::Meeting;
 pub use narrow::Narrow;
 pub use recorded::{Happened, Recorded};
-pub use seats::{Closed, OpenHub, StationFault, is_answer};
+pub use seats::{Closed, OpenHub, is_answer};

@@ -7,8 +7,8 @@ ghost use Rattle.hub_core.specs.Lanes.{numbers_of};
 use crate::lane_gate::{LaneGate, first_polled, polls_nothing};
 use element_core::Year;
 use hub_core::{
-    ClosedLane, Collected, DelivererSeat, Handed, Hub, LaneSeat, OpenGate, Parts, Shape, Signals,
-    SubmitFault, Unsettled, Worked, WorkerSeat, run_workers,
+    ClosedLane, Collected, DelivererSeat, Handed, Hub, HubFault, LaneSeat, OpenGate, Parts,
+    ServeFault, Shape, Signals, SubmitFault, Unsettled, Worked, WorkerSeat, run_workers,
 };
 use lane_core::{Delivery, Ticket};
 use scan_core::{Answer, Carrier, Runs};
@@ -16,22 +16,7 @@ use std::alloc::{AllocError, Global};
 use std::sync::Wait;
 use std::thread::Threads;
 
-/// Why a hub does not do what a test wants.
-#[derive(Clone, Copy, Debug, PartialEq, Eq)]
-pub enum StationFault {
-    /// There is no such seat.
-    NoSeat,
-    /// It has another shape, a thread could not be started, or memory was refused.
-    Refused,
-}
-
-impl From<AllocError> for StationFault {
-    fn from(_: AllocError) -> StationFault {
-        StationFault::Refused
-    }
-}
-
-/// A hub and all its seats.
+/// A hub and all its seats. A call that names a seat that it does not have answers `BadCount`.
 #[derive(Drop)]
 pub struct OpenHub {
     hub: Hub,
@@ -61,13 +46,13 @@ fn told(alloc: Global, fault: SubmitFault) -> Result<String, AllocError> {
 }
 
 /// Closes each lane, in their order.
-fn close_all(alloc: Global, lanes: Vec<LaneSeat>) -> Result<Vec<ClosedLane>, StationFault>
+fn close_all(alloc: Global, lanes: Vec<LaneSeat>) -> Result<Vec<ClosedLane>, ServeFault>
     ensures { IfOk result (λ v. v.items ≡ lanes.items) }
 {
     let mut closed = Vec::new(alloc);
     for lane in lanes {
         if closed.push(lane.close()).is_err() {
-            return Err(StationFault::Refused);
+            return Err(ServeFault::NoMemory);
         }
     }
     Ok(closed)
@@ -75,8 +60,8 @@ fn close_all(alloc: Global, lanes: Vec<LaneSeat>) -> Result<Vec<ClosedLane>, Sta
 
 impl OpenHub {
     /// A hub of this shape and its seats, for 2026.
-    pub fn new<R: Wait>(rt: &R, alloc: Global, shape: Shape) -> Result<OpenHub, StationFault> {
-        let year = Year::new(2026).ok_or(StationFault::Refused)?;
+    pub fn new<R: Wait>(rt: &R, alloc: Global, shape: Shape) -> Result<OpenHub, ServeFault> {
+        let year = Year::new(2026).ok_or(ServeFault::BadCount)?;
         match Hub::new(rt, alloc, shape, year) {
             Ok(parts) => {
                 let Parts {
@@ -92,7 +77,8 @@ impl OpenHub {
                     deliverer,
                 })
             }
-            Err(_) => Err(StationFault::Refused),
+            Err(HubFault::BadCount) => Err(ServeFault::BadCount),
+            Err(HubFault::NoMemory) => Err(ServeFault::NoMemory),
         }
     }
 
@@ -102,9 +88,9 @@ impl OpenHub {
         rt: &R,
         lane: usize,
         row: Runs,
-    ) -> Result<Result<Ticket, SubmitFault>, StationFault> {
+    ) -> Result<Result<Ticket, SubmitFault>, ServeFault> {
         if lane >= self.lanes.len() {
-            return Err(StationFault::NoSeat);
+            return Err(ServeFault::BadCount);
         }
         Ok(self.hub.submit(rt, &mut self.lanes[lane], row))
     }
@@ -116,7 +102,7 @@ impl OpenHub {
         alloc: Global,
         lane: usize,
         row: Runs,
-    ) -> Result<String, StationFault> {
+    ) -> Result<String, ServeFault> {
         match self.offer(rt, lane, row)? {
             Ok(Ticket { lane, number }) => Ok(format!(in alloc; "{lane}/{number}")?),
             Err(fault) => Ok(told(alloc, fault)?),
@@ -124,9 +110,9 @@ impl OpenHub {
     }
 
     /// What this worker does.
-    pub fn work<R: Wait>(&mut self, rt: &R, worker: usize) -> Result<Worked, StationFault> {
+    pub fn work<R: Wait>(&mut self, rt: &R, worker: usize) -> Result<Worked, ServeFault> {
         if worker >= self.workers.len() {
-            return Err(StationFault::NoSeat);
+            return Err(ServeFault::BadCount);
         }
         Ok(self.hub.work(rt, &mut self.workers[worker], &OpenGate))
     }
@@ -137,44 +123,45 @@ impl OpenHub {
     }
 
     /// Whether the lane's next delivery waits, has this number and reads as this carrier.
-    pub fn has_next(&self, lane: u8, number: u32, carrier: Carrier) -> Result<bool, StationFault> {
+    pub fn has_next(&self, lane: u8, number: u32, carrier: Carrier) -> Result<bool, ServeFault> {
         if usize::from(lane) >= self.lanes.len() {
-            return Err(StationFault::NoSeat);
+            return Err(ServeFault::BadCount);
         }
         Ok(is_answer(self.deliverer.next(lane), lane, number, carrier))
     }
 
     /// How many tickets the lane has issued.
-    pub fn issued(&self, lane: usize) -> Result<u32, StationFault> {
-        Ok(self.lanes.get(lane).ok_or(StationFault::NoSeat)?.issued())
+    pub fn issued(&self, lane: usize) -> Result<u32, ServeFault> {
+        Ok(self.lanes.get(lane).ok_or(ServeFault::BadCount)?.issued())
     }
 
     /// What happens to the lane's next delivery.
-    pub fn hand(&mut self, lane: u8) -> Result<Handed, StationFault> {
+    pub fn hand(&mut self, lane: u8) -> Result<Handed, ServeFault> {
         if usize::from(lane) >= self.lanes.len() {
-            return Err(StationFault::NoSeat);
+            return Err(ServeFault::BadCount);
         }
         Ok(self.deliverer.hand(lane))
     }
 
     /// What this lane polls.
-    pub fn poll(&mut self, lane: usize) -> Result<Option<Delivery>, StationFault> {
+    pub fn poll(&mut self, lane: usize) -> Result<Option<Delivery>, ServeFault> {
         if lane >= self.lanes.len() {
-            return Err(StationFault::NoSeat);
+            return Err(ServeFault::BadCount);
         }
         Ok(self.lanes[lane].poll())
     }
 
     /// Runs the workers in threads of their own, and opens the gate after the free lane has polled a delivery and the
     /// delayed lane has tried to. Returns the hub and its seats, what the free lane polled, and whether the other
-    /// polled nothing while its row was at the gate.
+    /// polled nothing while its row was at the gate. If the workers do not start, for want of threads or of memory, the
+    /// error is `NoThread`.
     pub fn poll_and_open<R: Threads + Wait + Sync>(
         self,
         rt: &R,
         alloc: Global,
         gate: &LaneGate,
         (free, held): (u8, u8),
-    ) -> Result<(OpenHub, Option<Delivery>, bool), StationFault> {
+    ) -> Result<(OpenHub, Option<Delivery>, bool), ServeFault> {
         let OpenHub {
             hub,
             lanes,
@@ -183,7 +170,7 @@ impl OpenHub {
         } = self;
         let (free, held) = (usize::from(free), usize::from(held));
         if free.max(held) >= lanes.len() {
-            return Err(StationFault::NoSeat);
+            return Err(ServeFault::BadCount);
         }
         let shared = &hub;
         let signals = Signals::new();
@@ -214,12 +201,12 @@ impl OpenHub {
                 };
                 Ok((station, polled, is_held))
             }
-            Err(_) => Err(StationFault::Refused),
+            Err(_) => Err(ServeFault::NoThread),
         }
     }
 
     /// The hub and its seats, with all its lanes closed.
-    pub fn close(self, alloc: Global) -> Result<Closed, StationFault> {
+    pub fn close(self, alloc: Global) -> Result<Closed, ServeFault> {
         let OpenHub {
             hub,
             lanes,
@@ -248,14 +235,14 @@ pub struct Closed {
 
 impl Closed {
     /// Whether this lane has polled everything.
-    pub fn is_done(&self, lane: usize) -> Result<bool, StationFault> {
-        Ok(self.lanes.get(lane).ok_or(StationFault::NoSeat)?.is_done())
+    pub fn is_done(&self, lane: usize) -> Result<bool, ServeFault> {
+        Ok(self.lanes.get(lane).ok_or(ServeFault::BadCount)?.is_done())
     }
 
     /// What this lane polls.
-    pub fn poll(&mut self, lane: usize) -> Result<Option<Delivery>, StationFault> {
+    pub fn poll(&mut self, lane: usize) -> Result<Option<Delivery>, ServeFault> {
         if lane >= self.lanes.len() {
-            return Err(StationFault::NoSeat);
+            return Err(ServeFault::BadCount);
         }
         Ok(self.lanes[lane].poll())
     }
@@ -294,16 +281,12 @@ impl Closed {
     }
 
     /// The lists of `settle`; if memory was refused, those of a second try.
-    pub fn settle<R: Wait>(
-        self,
-        rt: &R,
-        alloc: Global,
-    ) -> Result<Vec<Vec<Delivery>>, StationFault> {
+    pub fn settle<R: Wait>(self, rt: &R, alloc: Global) -> Result<Vec<Vec<Delivery>>, ServeFault> {
         match self.settle_once(rt, alloc) {
             Ok(lists) => Ok(lists),
             Err(again) => match again.settle_once(rt, alloc) {
                 Ok(lists) => Ok(lists),
-                Err(_) => Err(StationFault::Refused),
+                Err(_) => Err(ServeFault::NoMemory),
             },
         }
     }
