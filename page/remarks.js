@@ -1,7 +1,7 @@
 // @ts-check
 // Finds what a list says of its prices outside their heading: in titles, between its lines and in other columns, such
-// as "all prices without tax", a column of units that says "carton", or sums of price and tax. tables/shop/README.md has
-// the rule. As bindings/python/noriladle/_remarks.py.
+// as "all prices without tax", a column of units that says "carton", or sums of price and tax.
+// tables/shop/README.md has the rule. As bindings/python/noriladle/_remarks.py.
 "use strict";
 
 /**
