@@ -1,11 +1,12 @@
 -- The widths of a field, put block by block.
-use Rattle.std.proofs.Common.{◌+◌, ◌-◌, ◌*◌, ◌++◌, ◌<◌, ◌≡◌, ◌≤◌, ◌∙◌, ◌∷◌, Bool, List, [], ap, arith, cond, drop, get_or, inl, inr, length, length-append, map, refl, replicate, suc, sum, sym, take, true, zero, ℕ}
+use Rattle.std.proofs.Common.{◌+◌, ◌-◌, ◌*◌, ◌++◌, ◌<◌, ◌≡◌, ◌≤◌, ◌∙◌, ◌∷◌, Bool, List, [], ap, arith, cond, drop, false, get_or, inl, inr, length, length-append, map, nat_lt, refl, replicate, suc, sum, sym, take, true, zero, ℕ}
 use Rattle.std.specs.Char.{is_ascii_digit}
 use Rattle.std.specs.Simd.Lanes.{Each1}
-use Rattle.std.proofs.lemmas.Bool.{and_from, and_parts, cases_Bool, cond-false, cond-true, eqb-true}
+use Rattle.std.proofs.lemmas.Bool.{and_from, and_parts, cases_Bool, cond-false, cond-true, eqb-true, le-ltb}
 use Rattle.std.proofs.lemmas.Simd.{Each1-replicate}
 use Rattle.std.proofs.lemmas.List.{append-nil, append_assoc, length-drop, length-replicate, take-append-drop}
 use Rattle.std.proofs.lemmas.List.Sums.{sum_by-cons}
+use Rattle.csv_records.specs.inner.FrontWidths.{has_wide}
 use Rattle.csv_records.specs.inner.LaneValues.{are_fine, digit_of, is_fine, puts, value_of}
 use Rattle.csv_records.specs.lanes.Widths.{are_widths, widths_in, words_of}
 use Rattle.csv_records.proofs.Decimals.{digit_range}
@@ -61,12 +62,26 @@ value_small b a unit =
           omega (arith, is, range.0, range.1)
     ]
 
--- so they are not wide together
-narrow_puts : (xs : List ℕ) (c b a : ℕ) → are_fine c b a xs ≡ true → sum (puts b a xs) ≤ 99 * length xs
-narrow_puts [] c b a fine = omega arith
+-- so none is wide
+narrow_puts : (xs : List ℕ) (c b a : ℕ) → are_fine c b a xs ≡ true → has_wide (puts b a xs) ≡ false
+narrow_puts [] c b a fine = refl
 narrow_puts (x ∷ xs) c b a fine =
     let parts = and_parts (is_fine c b a x) (are_fine b a x xs) fine in
     let rest = narrow_puts xs b a x parts.1 in
+    elim (fine_byte c b a x parts.0) [
+      | inl digit ↦ ap has_wide (passed b a x xs digit) ∙ rest
+      | inr space ↦
+          let small = value_small b a space.1 in
+          let narrow : nat_lt 65535 (value_of b a) ≡ false = le-ltb 65535 (value_of b a) (omega (arith, small)) in
+          ap has_wide (put b a x xs space.0) ∙ rw (narrow, rest) refl
+    ]
+
+-- and they are not wide together
+sum_puts : (xs : List ℕ) (c b a : ℕ) → are_fine c b a xs ≡ true → sum (puts b a xs) ≤ 99 * length xs
+sum_puts [] c b a fine = omega arith
+sum_puts (x ∷ xs) c b a fine =
+    let parts = and_parts (is_fine c b a x) (are_fine b a x xs) fine in
+    let rest = sum_puts xs b a x parts.1 in
     elim (fine_byte c b a x parts.0) [
       | inl digit ↦ let same : sum (puts b a (x ∷ xs)) ≡ sum (puts a x xs) = ap sum (passed b a x xs digit) in omega (arith, rest, same)
       | inr space ↦
@@ -150,7 +165,7 @@ field_ended field rest last done n is ended =
 
 -- behind the last block, a space and zeros, all widths are put
 all_put : (field seen widths lanes : List ℕ) (n at : ℕ) → seen ≡ field ++ 32 ∷ replicate n 48 → ArePut seen widths lanes at
-    → (are_widths (words_of field) ≡ true) × (take at widths ≡ widths_in field) × (sum (widths_in field) ≤ 99 * length field + 99)
+    → (are_widths (words_of field) ≡ true) × (take at widths ≡ widths_in field) × (sum (widths_in field) ≤ 99 * length field + 99) × (has_wide (widths_in field) ≡ false)
 all_put field seen widths lanes n at is state =
     let ended = field ++ 32 ∷ [] in
     let zeros : List ℕ = replicate n 48 in
@@ -159,14 +174,18 @@ all_put field seen widths lanes n at is state =
     let e = ends 32 32 32 ended in
     let same : puts 32 32 seen ≡ puts 32 32 ended =
     ap (puts 32 32) parted ∙ puts_append ended zeros 32 32 32 ∙ ap (λ t. puts 32 32 ended ++ t) (puts_zeros n e.1 e.2) ∙ append-nil (puts 32 32 ended) in
-    let shown = puts_widths field fine in
-    (shown.0, state.put ∙ same ∙ sym shown.1, omega (arith, ap sum shown.1, narrow_puts ended 32 32 32 fine, length-append field (32 ∷ [])))
+    let shown = puts_widths field fine in (
+      shown.0,
+      state.put ∙ same ∙ sym shown.1,
+      omega (arith, ap sum shown.1, sum_puts ended 32 32 32 fine, length-append field (32 ∷ [])),
+      ap has_wide shown.1 ∙ narrow_puts ended 32 32 32 fine,
+    )
 
 -- behind the last block of a field
 pub field_put : (field rest last old new lanes : List ℕ) (done at count : ℕ) (state : ArePut (take done field) old lanes at) → done ≤ length field
     → length field - done < 16 → rest ≡ drop done field → last ≡ rest ++ 32 ∷ replicate (15 - length rest) 48 → Each1 (λ b. b < 256) last
     → BlockPuts state.prior last old new at count
-    → (are_widths (words_of field) ≡ true) × (take (at + count) new ≡ widths_in field) × (sum (widths_in field) ≤ 99 * length field + 99)
+    → (are_widths (words_of field) ≡ true) × (take (at + count) new ≡ widths_in field) × (sum (widths_in field) ≤ 99 * length field + 99) × (has_wide (widths_in field) ≡ false)
 field_put field rest last old new lanes done at count state within short is ended each block =
     let zeros : List ℕ = replicate (15 - length rest) 48 in
     let count_zeros : length zeros ≡ 15 - length rest = length-replicate (15 - length rest) 48 in

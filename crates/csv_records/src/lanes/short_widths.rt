@@ -3,19 +3,24 @@
 //! A width is before each space. In each lane of a vector, it reads the two bytes before the lane as a number, and
 //! then collects the lanes at spaces. So no branch waits for the length of a width. A field with any other byte or
 //! word is left to `read_widths`, which reads it word by word and finds its error.
-ghost use Rattle.std.specs.Prelude.{◌≡◌, ◌==◌, ◌<◌, ◌≤◌, ◌+◌, ◌/◌, ◌++◌, ◌-◌, ◌∷◌, Bool, false, drop, get_or, length, List, map, IfSome, [], replicate, sum, take, true, ◌*◌, ℕ};
+ghost use Rattle.std.specs.Prelude.{◌≡◌, ◌==◌, ◌<◌, ◌≤◌, ◌+◌, ◌/◌, ◌++◌, ◌-◌, ◌∷◌, Bool, false, drop, get_or, length, List, map, IfSome, [], replicate, sum, take, true, Ok, ◌*◌, ℕ};
 ghost use Rattle.std.specs.Simd.Lanes.{Each1, mask_l};
 ghost use Rattle.std.specs.List.{list_all};
+ghost use Rattle.csv_records.specs.inner.FrontWidths.{has_wide};
 ghost use Rattle.csv_records.specs.inner.Kept.{at_set_bits};
 ghost use Rattle.csv_records.specs.inner.LaneValues.{are_fine, digit_of, fine_lanes, lane_values, puts};
 ghost use Rattle.csv_records.specs.lanes.Widths.{are_widths, widths_in, words_of};
 
 use crate::lanes::gather::gather;
 use scan_core::WritesWidths;
+use std::alloc::AllocError;
 use std::simd::prelude::*;
 
-/// The longest field that it reads: its widths are together at most 65,535 dots.
-const LONGEST: usize = 640;
+/// The longest field that it reads into a list. Its widths need less memory than a pool of rows keeps.
+const LONGEST: usize = 1_920;
+
+/// The longest field that it reads into a row: its widths are together at most 65,535 dots.
+const LONGEST_IN_ROW: usize = 640;
 
 /// The lanes of `now` moved by one place, by two or by three, and the last of `before` in front of them.
 #[inline(always)]
@@ -193,7 +198,7 @@ fn put_widths(field: &[u8], widths: &mut [u16]) -> Option<usize>
     ensures same { length widths.new ≡ length widths.old }
     ensures few { IfSome result (λ count. count ≤ length widths.new) }
     ensures put { IfSome result (λ count. (are_widths (words_of field.now) ≡ true) × (take count widths.new ≡ widths_in field.now)
-        × (sum (widths_in field.now) ≤ 99 * length field.now + 99)) }
+        × (sum (widths_in field.now) ≤ 99 * length field.now + 99) × (has_wide (widths_in field.now) ≡ false)) }
 {
     // There is no digit before the first block.
     let mut before = digits_of(u8x16::splat(b' '));
@@ -216,6 +221,22 @@ fn put_widths(field: &[u8], widths: &mut [u16]) -> Option<usize>
     Some(at + count)
 }
 
+/// Reads the widths of a field, if it is not long and each width has one or two digits. Otherwise there are none.
+pub fn read_short_widths(widths: &mut Vec<u16>, field: &[u8]) -> Result<bool, AllocError>
+    ensures read { result ≡ Ok true → (are_widths (words_of field.now) ≡ true) × (widths.new.items ≡ widths_in field.now) × (has_wide (widths_in field.now) ≡ false) }
+    ensures none { result ≡ Ok false → widths.new.items ≡ [] }
+{
+    if field.len() <= LONGEST {
+        widths.resize(field.len() / 2 + 16, 0)?;
+        if let Some(count) = put_widths(field, widths.as_mut_slice()) {
+            widths.truncate(count);
+            return Ok(true);
+        }
+    }
+    widths.clear();
+    Ok(false)
+}
+
 /// A field of which each width has one or two digits.
 #[derive(Clone, Copy)]
 pub struct ShortWidths<'a> {
@@ -226,7 +247,7 @@ impl<'a> WritesWidths for ShortWidths<'a> {
     ghost Writes = { λ short widths. (are_widths (words_of short.field.now) ≡ true) × (widths ≡ widths_in short.field.now) };
 
     fn write(&self, places: &mut [u16]) -> Option<usize> {
-        if places.len() < self.field.len() / 2 + 16 || LONGEST < self.field.len() {
+        if places.len() < self.field.len() / 2 + 16 || LONGEST_IN_ROW < self.field.len() {
             return None;
         }
         put_widths(self.field, places)

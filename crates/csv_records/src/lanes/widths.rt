@@ -7,7 +7,7 @@ ghost use Rattle.csv_records.specs.lanes.Widths.{number_in, are_widths, field_fa
 ghost use Rattle.csv_records.specs.declared.input.fault.RecordFault.{RecordFault};
 
 use crate::input::fault::{RecordFault, RecordRefusal};
-use crate::lanes::short_widths::ShortWidths;
+use crate::lanes::short_widths::{ShortWidths, read_short_widths};
 use scan_core::{RowPool, RunFault, Runs};
 
 /// The number of a text of one to `most` digits. `most` is at most 5, since the proof bounds the number by
@@ -166,6 +166,21 @@ fn read_any_widths(room: Vec<u16>, field: &[u8]) -> Result<(Vec<u16>, bool), Rec
     Ok((widths, is_wide))
 }
 
+/// The widths of a field, as `read_any_widths` reads them.
+fn read_widths(pool: &mut RowPool, field: &[u8]) -> Result<(Vec<u16>, bool), RecordRefusal>
+    ensures words { OnOk result (are_widths (words_of field.now) ≡ true) }
+    ensures widths { IfOk result (λ read. read.0.items ≡ capped (widths_in field.now)) }
+    ensures wide { IfOk result (λ read. read.1 ≡ has_wide (widths_in field.now)) }
+    ensures refused { (f : RecordFault) → result ≡ Err (RecordRefusal.Record f)
+        → field_fault field.now ≡ Some f }
+{
+    let mut widths = pool.take_widths();
+    if read_short_widths(&mut widths, field)? {
+        return Ok((widths, false));
+    }
+    read_any_widths(widths, field)
+}
+
 /// Why a record is refused whose widths are no row.
 fn refused(fault: RunFault) -> RecordRefusal
     ensures record { (f : RecordFault) → result ≡ RecordRefusal.Record f → of_runs (Some fault) ≡ Some f }
@@ -178,15 +193,14 @@ fn refused(fault: RunFault) -> RecordRefusal
     }
 }
 
-/// The row of a field, read word by word.
-fn read_any_runs(pool: &mut RowPool, field: &[u8]) -> Result<Runs, RecordRefusal>
+/// The row of a field, read into a list first.
+fn read_long_runs(pool: &mut RowPool, field: &[u8]) -> Result<Runs, RecordRefusal>
     ensures ok { IfOk result (λ runs. runs ≡ widths_in field.now) }
     ensures taken { OnOk result (field_fault field.now ≡ None) }
     ensures refused { (f : RecordFault) → result ≡ Err (RecordRefusal.Record f)
         → field_fault field.now ≡ Some f }
 {
-    let room = pool.take_widths();
-    let (widths, is_wide) = read_any_widths(room, field)?;
+    let (widths, is_wide) = read_widths(pool, field)?;
     match Runs::from_widths(pool, widths) {
         Ok(runs) => {
             // `BadRuns` comes before `TooWide`, so only here is a wide width an error.
@@ -209,7 +223,7 @@ pub fn read_runs(pool: &mut RowPool, field: &[u8]) -> Result<Runs, RecordRefusal
 {
     match Runs::written_by(pool, &ShortWidths { field }) {
         Ok(Some(runs)) => Ok(runs),
-        Ok(None) => read_any_runs(pool, field),
+        Ok(None) => read_long_runs(pool, field),
         Err(fault) => Err(refused(fault)),
     }
 }

@@ -1,9 +1,9 @@
--- What `read_any_runs` answers by the capped widths is true of the field: it shows this row, or has this fault.
+-- What `read_long_runs` answers by the capped widths is true of the field: it shows this row, or has this fault.
 use Rattle.std.proofs.Common.{◌≡◌, ◌≢◌, ◌∙◌, Some, ap}
 use Rattle.scan_core.specs.declared.fault.RunFault.TheVariants as run
 use Rattle.csv_records.specs.declared.input.fault.RecordFault.TheVariants as fault
 use Rattle.csv_records.proofs.lanes.FieldFaults.{capped_fault, capped_taken, capped_too_wide}
-use Rattle.csv_records.proofs.lanes.widths.read_any_runs.Goals as goal
+use Rattle.csv_records.proofs.lanes.widths.read_long_runs.Goals as goal
 
 pub returns-then-is_wide-clause-refused : goal.returns-then-is_wide-clause-refused
 returns-then-is_wide-clause-refused c = λ f same.
