@@ -50,6 +50,12 @@ const FINE: Turn = Turn {
     least: 922,
 };
 
+/// Where values turn that come back by nearly half, so not at a light line through a bar that a dead dot of a printer left.
+const COARSE: Turn = Turn {
+    part: 430,
+    least: 1536,
+};
+
 /// Where the mean of lines turns that comes back by even less.
 const FINER: Turn = Turn {
     part: 40,
@@ -57,7 +63,7 @@ const FINER: Turn = Turn {
 };
 
 /// The looks, each if those before found nothing.
-pub(crate) const LOOKS: [Look; 10] = [
+pub(crate) const LOOKS: [Look; 11] = [
     Look {
         rows: 24,
         sampling: Sampling::Dots,
@@ -125,6 +131,12 @@ pub(crate) const LOOKS: [Look; 10] = [
         lines: 3,
         is_aslant: true,
         turn: FINER,
+        ..USUAL
+    },
+    Look {
+        lines: 3,
+        rows: 60,
+        turn: COARSE,
         ..USUAL
     },
 ];
