@@ -324,10 +324,19 @@ impl<'a> Sheet<'a> {
         Ok(())
     }
 
-    /// Whether the price is above the bars, and larger. On a low label it can be larger beside them.
-    fn is_price_first(&self) -> bool {
-        let is_beside = self.high_mm() < LOW_MM && self.item.wide() <= self.common().column;
-        self.plan.look.is_price_first && self.has(Field::Price) && !is_beside
+    /// Puts all but the bars. On a low label the price can be larger beside the bars than above them; it stands above
+    /// them if there is no room for all texts beside them.
+    fn put_all(&self, parts: &mut Parts) -> Result<Rows, LabelFault> {
+        if !self.plan.look.is_price_first || !self.has(Field::Price) {
+            return self.bars_first(parts);
+        }
+        if self.high_mm() < LOW_MM && self.item.wide() <= self.common().column {
+            if let Ok(rows) = self.bars_first(parts) {
+                return Ok(rows);
+            }
+            parts.clear();
+        }
+        self.price_first(parts)
     }
 
     /// The price beside the bars if there is room, otherwise above them.
@@ -357,11 +366,7 @@ pub(crate) fn sketch(item: &Item, plan: &Plan) -> Result<Drawing, LabelFault>
     let smalls = smalls_of(item)?;
     let sheet = Sheet { item, plan, smalls };
     let mut others = ArrayVec::new();
-    let rows = if sheet.is_price_first() {
-        sheet.price_first(&mut others)?
-    } else {
-        sheet.bars_first(&mut others)?
-    };
+    let rows = sheet.put_all(&mut others)?;
     let mut parts = ArrayVec::new();
     sheet.put_bars(&mut parts, rows)?;
     for part in others.as_slice() {
