@@ -52,7 +52,7 @@ def too_long(chance: random.Random, row: bytes) -> bytes:
 EDITS = {
     "a digit": one_digit, "two digits more": too_long, "no number": in_cell(0, b"#N/V"), "rounded": in_cell(0, b"4,01235E+12"),
     "a letter": in_cell(0, b"40123450100O8"), "an element string without marks": in_cell(0, b"0109501101530003"),
-    "no day": in_cell(0, b"(01)09501101530003(17)261331"), "no AI": in_cell(0, b"(98765)1"), "a lone parenthesis": in_cell(0, b"(10)A)"),
+    "no day": in_cell(0, b"(01)09501101530003(17)261331"), "no AI": in_cell(0, b"(98765)1"), "an open parenthesis": in_cell(0, b"(10A"),
     "copies": in_cell(3, b"-1"), "many copies": in_cell(3, b"1001"), "copies in words": in_cell(3, b"two"),
     "Hebrew": in_cell(1, "שלום".encode()), "a sign of no font": in_cell(1, "\U000f1234".encode()), "a quotation mark": in_cell(1, b'"a"b'),
     "a QR code's link": in_cell(0, b"https://id.gs1.org/01/09501101530003"),
