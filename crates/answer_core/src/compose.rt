@@ -1,15 +1,15 @@
 //! Answers elements that are given as pairs of an AI and a value.
 ghost use Rattle.std.specs.Prelude.{◌≡◌, IfNone, IfSome, false, map, true, ◌∷◌, []};
 ghost use Rattle.element_core.specs.Pairs.{entry_of};
+ghost use Rattle.message_core.specs.Collecting.{Puts};
 ghost use Rattle.message_core.specs.Links.{fits, fits_entry};
 ghost use Rattle.answer_core.specs.Composed.{IsComposedAnswer, entry_given};
-ghost use Rattle.answer_core.specs.inner.Pairs.{Gathers};
 
 use crate::answer::Answer;
-use crate::pairs::{Pairs, put_pair, text_of};
 use crate::symbol::SymbolKind;
 use digits_core::RefusalKind;
 use element_core::{Elements, Pair, Year};
+use message_core::{Pairs, put_pair, text_of};
 
 /// An AI and a value. They need not belong together.
 #[repr(C)]
@@ -33,7 +33,7 @@ fn pair_given(given: &Given) -> Option<Pair>
 
 /// Puts a pair at the end, if it fits.
 fn put_given(pairs: &mut Pairs, given: &Given) -> bool
-    ensures { Gathers result pairs.old.list pairs.new.list (entry_given given.now ∷ []) }
+    ensures { Puts result pairs.old.list pairs.new.list (entry_given given.now ∷ []) }
 {
     put_pair(pairs, pair_given(given))
 }
