@@ -145,12 +145,12 @@ def _number(module: bytes, at: int) -> Tuple[int, int]:
 
 
 def _emptied(module: bytes) -> bytes:
-    """A module of texts with zeros for the lists of conflicts, which no call about texts reads, since zeros pack to nothing.
+    """A module of texts with zeros for the lists of conflicts and of units, which no call about texts reads, since zeros pack to nothing.
 
     :raises NoFile: the lists are not in it as they are in the sources.
     """
-    sources = "".join((ROOT / "crates" / "answer_core" / "src" / name).read_text("utf-8") for name in ("association.rt", "code.rt"))
-    lists = {it.encode("ascii") for it in re.findall(r'b"([^"]+)"', sources)}
+    sources = "".join((ROOT / "crates" / "answer_core" / "src" / name).read_text("utf-8") for name in ("association.rt", "code.rt", "gtin_use.rt", "unit.rt"))
+    lists = {it.encode("ascii").decode("unicode_escape").encode("latin-1") for it in re.findall(r'b"([^"]+)"', sources)}
     # The section of data has one segment, at an address.
     at = 8
     while module[at] != 11:
@@ -159,9 +159,9 @@ def _emptied(module: bytes) -> bytes:
     count, at = _number(module, _number(module, at + 1)[1])
     address, at = _number(module, at + 2)
     first, changed, found = _number(module, at + 1)[1], bytearray(module), 0
-    long = {it: module.find(it, first) for it in lists if len(it) >= 12}
-    end = max(long.values())
-    for it, at in long.items():
+    marked = {it: module.find(it, first) for it in lists if re.search(rb"[0-9]n|,", it)}
+    end = max(marked.values())
+    for it, at in marked.items():
         changed[at:at + len(it)] = bytes(len(it))
     # Each list has its address and its length in an array before the last of them.
     for at in range(first, end):
@@ -169,8 +169,8 @@ def _emptied(module: bytes) -> bytes:
         here += first - address
         if length and first <= here < end + 1000 and module[here:here + length] in lists:
             changed[at:at + 16], found = bytes(16), found + 1
-    wanted = 2 * len(re.findall(r"  Association \{ ", sources)) + len(re.findall(r"  CodedAis \{ ", sources))
-    if count != 1 or found != wanted or -1 in long.values():
+    wanted = 2 * len(re.findall(r"  (?:Association|Measured) \{ ", sources)) + len(re.findall(r"  (?:CodedAis|NumberPrefixes) \{ ", sources))
+    if count != 1 or found != wanted or -1 in marked.values():
         raise NoFile(f"the lists of conflicts stand {found} times in the module of texts, and not {wanted}", 70)
     return bytes(changed)
 
