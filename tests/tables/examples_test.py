@@ -30,6 +30,11 @@ def shown(crate: str, text: str) -> dict[str, str]:
     return found
 
 
+def laid_out_alike(examples: dict[str, str]) -> dict[str, str]:
+    """The examples on one line each: `rt fmt` lays out tests, and not docstrings."""
+    return {call: re.sub(r",? \}", " }", " ".join(lines.split())) for call, lines in examples.items()}
+
+
 def all_shown() -> dict[str, str]:
     found = {}
     for file in sorted((ROOT / "crates").glob("*/src/**/*.rt")):
@@ -41,7 +46,8 @@ class ExamplesTest(unittest.TestCase):
     maxDiff = None
 
     def test_each_example_is_a_test(self) -> None:
-        self.assertEqual(all_shown(), tested(TESTS.read_text(encoding="utf-8")))
+        tests = tested(TESTS.read_text(encoding="utf-8"))
+        self.assertEqual(laid_out_alike(all_shown()), laid_out_alike(tests))
 
     def test_no_test_and_no_heading_is_passed_over(self) -> None:
         self.assertEqual(len(tested(TESTS.read_text(encoding="utf-8"))), TESTS.read_text(encoding="utf-8").count("#[test]"))

@@ -859,8 +859,9 @@ def gtin_use(text: Union[str, bytes]) -> GtinUse:
     """
     digits, raw = read_gtin(text).encode("ascii"), _RawAnswer()
     _library.gs1_read_gtin(digits, len(digits), _ANY_YEAR, raw)
-    kinds: Tuple[GtinUse, ...] = get_args(GtinUse)
-    return kinds[_library.gs1_use_of_gtin(raw) - 1]
+    uses: Tuple[GtinUse, ...] = get_args(GtinUse)
+    number: int = _library.gs1_use_of_gtin(raw)
+    return uses[number - 1]
 
 
 def check_digit(text: Union[str, bytes]) -> int:

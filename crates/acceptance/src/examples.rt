@@ -131,3 +131,22 @@ fn writes_the_line_of_an_answer(rt: HostRuntime) -> Result<(), Fail> {
     assert_eq!(rt; text, b"]d2 (01)09501101530003(17)261231".as_slice());
     Ok(())
 }
+
+/// `answer_core::Answer::compose`
+#[test]
+fn composes_an_answer_of_two_elements(rt: HostRuntime) -> Result<(), Fail> {
+    use answer_core::{Answer, Given};
+    let year = element_core::Year::new(2026).ok_or("a year")?;
+    let lot = Given {
+        ai: b"10",
+        value: b"AB",
+    };
+    let expiry = Given {
+        ai: b"17",
+        value: b"261231",
+    };
+    let mut answer = Answer::new();
+    answer.compose(&[lot, expiry], year);
+    assert_eq!(rt; (answer.fault, answer.count, answer.length), (0, 2, 13));
+    Ok(())
+}
