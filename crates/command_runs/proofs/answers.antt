@@ -1,4 +1,5 @@
 -- Lemmas that the proofs of `src/answers/` cite, by subject; those of `src/live/` use PlainBytes too.
+pub mod CellsServed
 pub mod FeedsGrow
 pub mod FirstLine
 pub mod HeldBytes

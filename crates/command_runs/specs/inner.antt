@@ -2,7 +2,7 @@
 pub mod AnswerLines
 pub mod Buffers
 pub mod Came
-pub mod Cuts
+pub mod CellRows
 pub mod Finish
 pub mod HeldInputs
 pub mod Lines
@@ -11,6 +11,7 @@ pub mod Meaning
 pub mod NextNumbers
 pub mod Prints
 pub mod RowReaders
+pub mod ServedCells
 pub mod ServedRows
 pub mod Stops
 pub mod Texts

@@ -1,4 +1,5 @@
 //! Answers rows, and reports the answers.
+pub mod cells;
 pub mod held_input;
 pub mod lines;
 pub mod report;

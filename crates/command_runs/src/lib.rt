@@ -14,9 +14,9 @@ mod live;
 mod printed;
 mod write_buffer;
 
+pub use answers::cells::answer_cells;
 pub use answers::rows::{RowsFault, answer_records};
-pub use answers::serving::{AnswerFault, answer_lines};
-pub use columns::read_columns;
+pub use answers::serving::AnswerFault;
 pub use commands::check::{one_check, run_check};
 pub use commands::lanes::{one_lanes, run_lanes};
 pub use commands::live::run_live;

@@ -8,7 +8,10 @@ pub mod HeaderFacts
 pub mod HeaderFronts
 pub mod HeaderPieces
 pub mod HeaderRefusals
+pub mod HeldFacts
 pub mod ImageFacts
 pub mod PadFacts
 pub mod PrintFacts
+pub mod RowDots
+pub mod RowFacts
 pub mod WrittenFacts

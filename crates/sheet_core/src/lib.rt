@@ -25,8 +25,10 @@ pub use laws::{
     one_drawn, one_list_of_sheets, one_printed, printed_is_read, written_is_read,
 };
 pub use line::darken;
+pub use pbm::held::Held;
 pub use pbm::print::print_pbm;
 pub use pbm::read::{SheetIntake, read_pbm, read_sheets};
+pub use pbm::rows::ImageRows;
 pub use pbm::write::write_pbm;
 pub use print::{check_labels, print_sheets};
 pub use sheet::Sheet;

@@ -22,6 +22,10 @@ abbrev pub IsScan : ScanOptions → List ℕ → List ℕ → Type 0
 IsScan o bytes text = (sheets : List Bitmap) × AreImages o bytes sheets
     × (feeds : List (List (List ℕ))) × AreColumns (cells_of o.grid) sheets feeds × IsReport o.year feeds text
 
+-- a source gave all its bytes, and of them this text is written
+abbrev pub WritesImages : ScanOptions → Option (List ℕ) → Option (List ℕ) → List ℕ → Type 0
+WritesImages o left rest text = (bytes : List ℕ) × GaveAll left rest bytes × IsScan o bytes text
+
 -- a source gave all its bytes, and they are images; one of them does not have the size of the grid
 abbrev pub GaveOtherSize : ScanOptions → Option (List ℕ) → Option (List ℕ) → Type 0
 GaveOtherSize o left rest = (bytes : List ℕ) × GaveAll left rest bytes × (sheets : List Bitmap) × (images_of bytes ≡ (Ok sheets, []))

@@ -129,7 +129,8 @@ fn tell_fault<S: Source>(
     }
 }
 
-/// The lines of `answer_lines` for the rows that a source has for each lane.
+/// The lines of the answers to the rows that a source has for each lane, lane by lane and by number. All rows go
+/// through one hub with this many workers and this gate (`serve_traffic` of hub_core).
 ///
 /// The source has CSV records of two fields: a lane, and the widths of a row in dots, separated by single spaces. It
 /// reads no record while a row waits for room in the hub. The error is that of the first faulty record, unless a read

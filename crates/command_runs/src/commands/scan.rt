@@ -2,8 +2,7 @@
 ghost use Rattle.command_runs.specs.Runs.{Ran};
 ghost use Rattle.command_runs.specs.commands.Scans.{OneScan, scan_command};
 
-use crate::answers::serving::answer_lines;
-use crate::columns::read_columns;
+use crate::answers::cells::answer_cells;
 use crate::fault::CommandFault;
 use crate::grid::grid_of;
 use crate::printed::scanned_once;
@@ -14,7 +13,7 @@ use std::alloc::Global;
 use std::sync::Wait;
 use std::thread::Threads;
 
-/// Writes the lines of `answer_lines` for the rows of sheets in a source of PBM images (`read_columns`).
+/// Writes the lines of `answer_cells` for the images in a source.
 ///
 /// It refuses a grid as `run_print` does. It refuses an image whose size differs from the grid's after it has read
 /// all images.
@@ -29,10 +28,7 @@ pub fn run_scan<R: Threads + Wait + Sync, S: Source, W: Sink, G: Gate + Sync>(
     ensures { Ran (scan_command options) S.left S.failed W.taken W.failed source.old source.new sink.old sink.new result }
 {
     let grid = grid_of(options.grid)?;
-    let Some(feeds) = read_columns(alloc, grid, source)? else {
-        return Err(CommandFault::PbmSize);
-    };
-    let lines = answer_lines(rt, alloc, feeds, options.workers, options.year, gate)?;
+    let lines = answer_cells(rt, alloc, options, grid, source, gate)?;
     write_all(sink, lines.as_str().as_bytes())?;
     Ok(())
 }

@@ -38,7 +38,7 @@ fn ending(stopped: Option<LiveFault>, ended: Ended<Stopped, Infallible>) -> Resu
 
 /// Answers each record from a wire with one line, in the order of the records, as soon as possible. A record is a
 /// line: a lane, a comma, and the widths of a row or a message of a scanner. Workers read the rows as in
-/// `answer_lines`. The calling thread may read some too, without a gate. The answer to a row has the row's number in
+/// `serve_traffic`. The calling thread may read some too, without a gate. The answer to a row has the row's number in
 /// its lane; the answer to a message or to a refused record has `-` instead.
 ///
 /// Whenever it reads, it has already answered all complete lines. It ends with the input, or if a read or a write

@@ -9,23 +9,13 @@ use Rattle.sheet_core.specs.declared.fault.PbmFault.{PbmFault}
 use Rattle.sheet_core.specs.declared.fault.PbmFault.TheVariants.{NotP4, PbmHeader, Truncated, PbmSize, ReadFault, NoMemory}
 use Rattle.sheet_core.specs.Bitmaps.{Bitmap}
 use Rattle.sheet_core.specs.pbm.Images.{IsOpen, ReadsBytes, BytesTell, image_of, image, images_by, images_of, pbm_of, with_first, with_others}
+pub use Rattle.sheet_core.specs.pbm.Rows.{Had, before_others}
 use Rattle.sheet_core.proofs.pbm.ImageFacts.{image_told}
-
--- sheets before others
-abbrev pub before_others : List Bitmap → Result (List Bitmap) PbmFault × List ℕ → Result (List Bitmap) PbmFault × List ℕ
-before_others sheets (Ok others, rest) = (Ok (sheets ++ others), rest)
-before_others sheets (Err f, rest) = (Err f, rest)
 
 pub before_first : (sheets : List Bitmap) (s : Bitmap) (r : Result (List Bitmap) PbmFault × List ℕ) → before_others sheets (with_first s r)
     ≡ before_others (sheets ++ s ∷ []) r
 before_first sheets s (Ok others, rest) = ap (λ xs. (Ok xs, rest)) (sym (append_assoc sheets (s ∷ []) others))
 before_first sheets s (Err f, rest) = refl
-
--- where a reader is between images: these were read, and the file goes on from here
-pub record Had (old now : Option (List ℕ)) (k : ℕ) (sheets : List Bitmap) : Type 0 where
-  pub before : List ℕ
-  pub consumed : Consumes old now before
-  pub same : (more : List ℕ) → images_of (before ++ more) ≡ before_others sheets (images_by (4096 - k) more)
 
 pub had_none : (old : Option (List ℕ)) (sheets : List Bitmap) → sheets ≡ [] → Had old old 0 sheets
 had_none old sheets e = subst (Had old old 0) (sym e) (record { before = []; consumed = Consumes-nil old; same = λ more. sym (none (images_by 4096 more)) })
@@ -40,17 +30,17 @@ no_images zero = refl
 no_images (suc limit) = refl
 
 -- all that was read between images
-all_read : (old now : Option (List ℕ)) (k : ℕ) (sheets : List Bitmap) (h : Had old now k sheets) → images_of h.before ≡ (Ok sheets, [])
+pub all_read : (old now : Option (List ℕ)) (k : ℕ) (sheets : List Bitmap) (h : Had old now k sheets) → images_of h.before ≡ (Ok sheets, [])
 all_read old now k sheets h =
     ap images_of (sym (append-nil h.before)) ∙ h.same [] ∙ ap (before_others sheets) (no_images (4096 - k)) ∙ ap (λ xs. (Ok xs, [])) (append-nil sheets)
 
 -- all that was read within an image
-within : (old now mid new : Option (List ℕ)) (k : ℕ) (sheets : List Bitmap) (first : ℕ) (bytes : List ℕ) (h : Had old now k sheets) → k < 4096
+pub within : (old now mid new : Option (List ℕ)) (k : ℕ) (sheets : List Bitmap) (first : ℕ) (bytes : List ℕ) (h : Had old now k sheets) → k < 4096
     → images_of (h.before ++ first ∷ bytes) ≡ before_others sheets (with_others (images_by (4096 - (k + 1))) (image_of (first ∷ bytes)))
 within old now mid new k sheets first bytes h low =
     h.same (first ∷ bytes) ∙ ap (λ n. before_others sheets (images_by n (first ∷ bytes))) (let e : 4096 - k ≡ suc (4096 - (k + 1)) = omega arith in e)
 
-took : (old now mid new : Option (List ℕ)) (k : ℕ) (sheets : List Bitmap) (first : ℕ) (bytes : List ℕ) (h : Had old now k sheets)
+pub took : (old now mid new : Option (List ℕ)) (k : ℕ) (sheets : List Bitmap) (first : ℕ) (bytes : List ℕ) (h : Had old now k sheets)
     → Consumes now mid (first ∷ []) → Consumes mid new bytes
     → Consumes old new (h.before ++ first ∷ bytes)
 took old now mid new k sheets first bytes h c d = Consumes-trans old now new h.before (first ∷ bytes) h.consumed

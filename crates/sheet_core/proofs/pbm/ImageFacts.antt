@@ -46,25 +46,32 @@ header_more bytes more size e = by_more 4096 Start bytes [] more size e
 
 -- ---- an image by its header and its rows
 
-abbrev count : Size → ℕ
+abbrev pub count : Size → ℕ
 count size = stride size.width * size.height
 
-pub image_by : (head rows more : List ℕ) (size : Size) → header_of head ≡ (Ok size, []) → length rows ≡ stride size.width * size.height
-    → image_of (head ++ (rows ++ more)) ≡ (Ok (bitmap_of size rows), more)
-image_by head rows more size h long =
-    ap raster (header_more head (rows ++ more) size h)
-    ∙ ap (λ t. if t then (Err Truncated, []) else (Ok (bitmap_of size (take (count size) (rows ++ more))), drop (count size) (rows ++ more)))
+-- all rows of an image, and what follows them
+pub whole_raster : (size : Size) (rows more : List ℕ) → length rows ≡ stride size.width * size.height
+    → raster (Ok size, rows ++ more) ≡ (Ok (bitmap_of size rows), more)
+whole_raster size rows more long =
+    ap (λ t. if t then (Err Truncated, []) else (Ok (bitmap_of size (take (count size) (rows ++ more))), drop (count size) (rows ++ more)))
     (le-ltb (length (rows ++ more)) (count size) (let l = length-append rows more in omega arith))
     ∙ ap₂ (λ t d. (Ok (bitmap_of size t), d)) (take_at rows more (count size) long) (drop_at rows more (count size) long)
 
-pub image_short : (head rows : List ℕ) (size : Size) → header_of head ≡ (Ok size, []) → length rows < stride size.width * size.height → image_of (head ++ rows)
-    ≡ (Err Truncated, [])
-image_short head rows size h few =
-    ap raster (header_more head rows size h)
-    ∙ ap (λ t. if t then (Err Truncated, []) else (Ok (bitmap_of size (take (count size) rows)), drop (count size) rows))
+pub image_by : (head rows more : List ℕ) (size : Size) → header_of head ≡ (Ok size, []) → length rows ≡ stride size.width * size.height
+    → image_of (head ++ (rows ++ more)) ≡ (Ok (bitmap_of size rows), more)
+image_by head rows more size h long = ap raster (header_more head (rows ++ more) size h) ∙ whole_raster size rows more long
+
+-- some rows of it
+pub short_raster : (size : Size) (rows : List ℕ) → length rows < stride size.width * size.height → raster (Ok size, rows) ≡ (Err Truncated, [])
+short_raster size rows few =
+    ap (λ t. if t then (Err Truncated, []) else (Ok (bitmap_of size (take (count size) rows)), drop (count size) rows))
     (lt-ltb (length rows) (count size) few)
 
-image_open : (head rows : List ℕ) (size : Size) → header_of head ≡ (Ok size, []) → length rows ≤ stride size.width * size.height
+pub image_short : (head rows : List ℕ) (size : Size) → header_of head ≡ (Ok size, []) → length rows < stride size.width * size.height → image_of (head ++ rows)
+    ≡ (Err Truncated, [])
+image_short head rows size h few = ap raster (header_more head rows size h) ∙ short_raster size rows few
+
+pub image_open : (head rows : List ℕ) (size : Size) → header_of head ≡ (Ok size, []) → length rows ≤ stride size.width * size.height
     → IsOpen (image_of (head ++ rows))
 image_open head rows size h few =
     elim (cases_lt (length rows) (count size)) [

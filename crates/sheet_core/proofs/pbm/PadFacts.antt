@@ -18,7 +18,7 @@ pub cleared_none : (width : ℕ) (old : List ℕ) → Cleared width old 0 old
 cleared_none width old = record { long = refl; below = λ i h. absurd (let e : stride width * 0 ≡ 0 = omega arith in omega arith); above = λ i h. refl }
 
 -- a byte that is the last of no row
-inside : (w row i : ℕ) → w * row ≤ i → i < w * row + (w - 1) → (i + 1) % w ≡ 0 → ⊥
+pub inside : (w row i : ℕ) → w * row ≤ i → i < w * row + (w - 1) → (i + 1) % w ≡ 0 → ⊥
 inside w row i low high e =
     let j : ℕ = i + 1 - w * row in
     let at : row * w + j ≡ i + 1 = let c : row * w ≡ w * row = grind arith in omega arith in

@@ -17,7 +17,7 @@ use std::alloc::Global;
 const PIECE: usize = 65_536;
 
 /// The next byte, or none at the end.
-fn next<R: Source>(reader: &mut R) -> Result<Option<u8>, Failed>
+pub(crate) fn next<R: Source>(reader: &mut R) -> Result<Option<u8>, Failed>
     ensures byte { MatchResult result
         (λ next. (R.failed reader.new ≡ R.failed reader.old) × MatchOption next
         (Consumes (R.left reader.old) (R.left reader.new) [] × IsAtEnd (R.left reader.new))
@@ -33,7 +33,7 @@ fn next<R: Source>(reader: &mut R) -> Result<Option<u8>, Failed>
 }
 
 /// The size in a header that begins with this byte. It reads no byte after the one that decides.
-fn read_header<R: Source>(reader: &mut R, first: u8) -> Result<Size, PbmFault>
+pub(crate) fn read_header<R: Source>(reader: &mut R, first: u8) -> Result<Size, PbmFault>
     ensures read { ReadsBytes (λ bytes. header_of (first ∷ bytes)) (R.left reader.old) (R.left reader.new) result }
     ensures size { IfOk result (λ size. IsTrue (is_size size.width) × IsTrue (is_size size.height)) }
     ensures failed { FailsFor (R.failed reader.old) (R.failed reader.new) result }

@@ -1,4 +1,4 @@
--- A delivery adds its line and changes no row; as in `serving/AnsweredRowsTraffic/bring`, of another traffic.
+-- A delivery adds its line and changes no row; as in `cells/SheetRowsTraffic/bring`, of another traffic.
 use Rattle.std.proofs.Common.{arith, string_bytes}
 use Rattle.command_runs.proofs.answers.LinesAsBrought.{texts_long}
 use Rattle.command_runs.proofs.answers.rows.RecordRowsTraffic.bring.Goals as goal
