@@ -145,8 +145,9 @@ tabs between. The last line is a sum, and the status is 1 if a line is refused. 
 that are clearly meant in place of ="4012345010008", 4.012345010008E+12, EAN: 4012345010008, an ISBN of ten digits, or a
 number without its zeros in front.
 
-A warning behind a line names elements that the standard does not let stand together, and codes of no country or
-currency. --strict refuses such a line.
+A warning behind a line names elements that the standard does not let stand together, codes of no country or currency,
+and numbers of no trade item: of a shop (02, 04, 2), of a coupon or a receipt (05, 980 to 984, 99), or zeros alone.
+--strict refuses such a line. Behind the number of a book, of music or of a serial stands ISBN, ISMN or ISSN.
 
   $ noriladle check supplier.csv
   $ noriladle check supplier.csv --fix -o fixed.csv
@@ -160,8 +161,10 @@ und der Status ist 1, wenn eine Zeile abgelehnt ist. --fix schreibt die Liste mi
 Stelle von ="4012345010008", 4.012345010008E+12, EAN: 4012345010008, einer ISBN mit zehn Stellen oder einer Nummer ohne
 ihre Nullen davor.
 
-Eine Warnung hinter einer Zeile nennt Elemente, die nach der Norm nicht zusammen stehen, und Codes, die kein Land und keine
-Währung haben. Mit --strict ist eine solche Zeile abgelehnt.
+Eine Warnung hinter einer Zeile nennt Elemente, die nach der Norm nicht zusammen stehen, Codes, die kein Land und keine
+Währung haben, und Nummern, die keinen Artikel meinen: die eines Ladens (02, 04, 2), eines Coupons oder einer Quittung (05,
+980 bis 984, 99) oder lauter Nullen. Mit --strict ist eine solche Zeile abgelehnt. Hinter der Nummer eines Buchs, von Noten
+oder einer Zeitschrift steht ISBN, ISMN oder ISSN.
 
   $ noriladle check lieferant.csv
   $ noriladle check lieferant.csv --fix -o neu.csv

@@ -8,8 +8,8 @@ that are clearly meant in place of ="4012345010008", 4.012345010008E+12, EAN: 40
 number without its zeros in front.
 
 A warning behind a line names elements that the standard does not let stand together, codes of no country or currency,
-and numbers of no trade item: of a shop (02, 04, 2), of a coupon (05, 98, 99), or zeros alone. --strict refuses such a
-line. Behind the number of a book, of music or of a serial stands ISBN, ISMN or ISSN.
+and numbers of no trade item: of a shop (02, 04, 2), of a coupon or a receipt (05, 980 to 984, 99), or zeros alone.
+--strict refuses such a line. Behind the number of a book, of music or of a serial stands ISBN, ISMN or ISSN.
 
   $ noriladle check supplier.csv
   $ noriladle check supplier.csv --fix -o fixed.csv
