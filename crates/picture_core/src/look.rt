@@ -474,13 +474,13 @@ pub(crate) fn read_patch(
     } else {
         stripes
     };
-    let grid = grid_over(blocks, patch, frame, look.rows, look.lines);
+    let grid = grid_over(blocks, patch, frame, look.rows);
     let (taken, is_unsure) = read_grid(reader, &grid, stripes, look, room, shown, furthest);
     if !is_unsure || grid.step <= ONE {
         return taken;
     }
     let rows = look.rows.saturating_mul(MORE_ROWS);
-    let grid = grid_over(blocks, patch, frame, rows, 1);
+    let grid = grid_over(blocks, patch, frame, rows);
     let (more, _) = read_grid(reader, &grid, stripes, look, room, shown, furthest);
     Taken {
         dots: taken.dots.saturating_add(more.dots),

@@ -247,19 +247,13 @@ pub(crate) fn is_sparse(blocks: &Blocks, patch: &[u32], times: i64) -> bool {
     long.saturating_mul(high) > most
 }
 
-/// At most this many rows through a patch, and beyond its ends, that are so many dots apart or more.
-pub(crate) fn grid_over(
-    blocks: &Blocks,
-    patch: &[u32],
-    frame: Frame,
-    rows: u32,
-    apart: u32,
-) -> Grid {
+/// At most this many rows through a patch, and beyond its ends.
+pub(crate) fn grid_over(blocks: &Blocks, patch: &[u32], frame: Frame, rows: u32) -> Grid {
     let (us, vs) = spans_of(blocks, patch, frame);
     let side = blocks.layout.side as i64 * ONE;
     let beyond = beyond(us.length(), side);
     let height = vs.length() + side;
-    let step = over(height, i64::from(rows)).max(ONE * i64::from(apart));
+    let step = over(height, i64::from(rows)).max(ONE);
     Grid {
         frame,
         left: us.least - beyond,

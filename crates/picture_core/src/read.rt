@@ -40,7 +40,7 @@ const MIXED: i64 = 3;
 const SPARSE: i64 = 7;
 
 /// How many dots looks take before no more patch is looked at, beside a quarter of those that the picture has.
-const MOST_TAKEN: usize = 1_500_000;
+const MOST_TAKEN: usize = 2_000_000;
 
 /// Leaves the blocks that are outside of what is found.
 fn leave_unknown(blocks: &mut Blocks, shown: &Shown) {
