@@ -195,6 +195,24 @@ def test_a_name_that_shows_nothing_does_no_harm() -> None:
             assert "cannot be set" in str(error)
 
 
+def test_a_long_name_leaves_room_for_the_price() -> None:
+    name = "Blütenhonig aus der Lüneburger Heide, cremig gerührt, aus kontrolliert biologischer Imkerei, 500 g im Glas mit Schraubdeckel"
+    for stock in ("50x19", "57x19", "70x20", "L7651", "57x32"):
+        labels = made(f"gtin;name;price\n4012345010008;{name};12,90 €\n".encode(), stock, look=Look(600))
+        (_, drawing), = labels.drawings
+        sizes = {text.font.is_bold and text.text == "12,90 €": text.size for text in drawing.texts if text.font.is_bold}
+        assert sizes[True] > sizes[False] and any(text.text.endswith("…") for text in drawing.texts) == any("is cut" in it.said for it in labels.warnings)
+
+
+@pytest.mark.parametrize("headings, cells, is_beside", [
+    ("", "", True), (";old price;price per kg;best before;batch;line 1", ";3.90;5.80/kg;31.12.2026;L1;from Assam", False),
+])
+def test_the_price_of_a_low_label_is_beside_its_bars_if_all_texts_have_room(headings: str, cells: str, is_beside: bool) -> None:
+    (_, drawing), = made(f"gtin;name;price{headings}\n4012345010008;Tea;2.90{cells}\n".encode(), "70x20", look=Look(203)).drawings
+    price, = (text for text in drawing.texts if text.text == "2.90")
+    assert (price.base > drawing.boxes[0][1]) == is_beside
+
+
 def test_one_long_price_does_not_make_all_small() -> None:
     def size(extra: str) -> float:
         drawings = made(f"gtin,price\n9501101530003,1.95\n96385074,2.95\n012345000065,{extra}\n".encode(), "3474").drawings
